@@ -1,0 +1,10 @@
+pub mod Integers
+pub mod Residue
+pub mod Sums
+pub mod Balanced
+pub mod Reading
+pub mod Window
+pub mod Modulus
+pub mod Checks
+pub mod Walk
+pub mod Cases

@@ -1,0 +1,80 @@
+-- "Checks, in order": each condition by its number, and the first number that applies.
+use mathlib.Core.Path.{_≡_}
+use mathlib.Core.Bool.{Bool, true, false, not, _||_, _&&_}
+use mathlib.Core.List.{List, [], _∷_}
+use Prim.Native.Nat.{ℕ, zero, suc, _*_, _/_, _^_}
+use lib.Dec.{leb, ltb, eqb}
+use lib.ListN.{length}
+use Rattle.scheme.specs.Numbers.{pick}
+use Rattle.scheme.specs.Modulus.{Modulus, Native, Explicit, size, bits}
+use Rattle.scheme.specs.Basis.{Levels, levelsOf, fullCount}
+
+-- whether a condition holds, and its number
+pub record Check : Type 0 where
+  pub fails : Bool
+  pub number : ℕ
+
+abbrev pub row : Bool → ℕ → Check
+row b k = record { fails = b; number = k }
+
+-- the number of the first check that fails, or 0
+unfoldable pub firstOf : List Check → ℕ
+firstOf [] = 0
+firstOf (c ∷ cs) = pick (c .fails) (c .number) (firstOf cs)
+
+-- p holds of each element
+unfoldable pub allOf : {A : Type 0} → (A → Bool) → List A → Bool
+allOf p [] = true
+allOf p (x ∷ xs) = p x && allOf p xs
+
+-- "1. Base log is below 2 or above 31", that is w or more
+abbrev pub baseLogFails : ℕ → ℕ → Bool
+baseLogFails w b = ltb b 2 || leb w b
+
+-- "2. An explicit modulus is below 4."
+abbrev pub modulusFails : Modulus → Bool
+modulusFails Native = false
+modulusFails (Explicit q) = ltb q 4
+
+-- "3. An explicit modulus is below B."
+abbrev pub baseFails : ℕ → Modulus → Bool
+baseFails b Native = false
+baseFails b (Explicit q) = ltb q (2 ^ b)
+
+-- "4. Not one whole level fits k."
+abbrev pub fullFails : ℕ → ℕ → Bool
+fullFails k b = ltb (fullCount k b) 1
+
+-- "5. The level count is 0 or above the full count."
+abbrev pub levelsFail : ℕ → ℕ → ℕ → Bool
+levelsFail k b L = ltb L 1 || ltb (fullCount k b) L
+
+-- 1 to 5, for every call that takes a basis
+abbrev pub basisRows : ℕ → Modulus → ℕ → ℕ → List Check
+basisRows w m b L =
+    row (baseLogFails w b) 1
+    ∷ row (modulusFails m) 2
+    ∷ row (baseFails b m) 3
+    ∷ row (fullFails (bits w m) b) 4
+    ∷ row (levelsFail (bits w m) b L) 5
+    ∷ []
+
+abbrev pub basisRefusal : ℕ → Modulus → ℕ → ℕ → ℕ
+basisRefusal w m b L = firstOf (basisRows w m b L)
+
+-- "11. An output has the wrong length."
+abbrev pub lengthFails : ℕ → ℕ → Bool
+lengthFails x y = not (eqb x y)
+
+-- "14. A word is not below q."
+abbrev pub wordFails : ℕ → ℕ → Bool
+wordFails q x = leb q x
+
+unfoldable pub wordsFail : ℕ → List ℕ → Bool
+wordsFail q xs = not (allOf (λ x. ltb x q) xs)
+
+-- A call answers r, and a lent buffer that held `before` holds `after`: r is the first refusal, or 0, and the buffer holds
+-- the result, or where the call was refused what it held before.
+pub record Answers {A : Type 0} (refusal : ℕ) (result before : List A) (r : ℕ) (after : List A) : Type 0 where
+  pub number : r ≡ refusal
+  pub written : after ≡ pick (eqb refusal 0) result before
