@@ -4,9 +4,10 @@ use mathlib.Core.Path.{_≡_, refl, sym, _∙_, ap, ap₂, subst}
 use mathlib.Core.Logic.{_≢_}
 use Prim.Native.Nat.{ℕ, zero, suc, _+_, _*_, _-_, _<_, _≤_}
 use native.Mathlib.Omega.{arith}
+use native.Mathlib.Nat.{add-zero, zero-add}
 use native.Mathlib.Decide.{ℕ-discrete}
 use lib.IntN.{ℤ, pos, negsuc, negℤ, natAbs, _+ℤ_, _-ℤ_, _*ℤ_, +ℤ-idl, +ℤ-idr, negℤ-+ℤ, *ℤ-zero}
-use Rattle.scheme.specs.Numbers.{Cong, sumTo}
+use Rattle.scheme.specs.Numbers.{Cong, sumTo, sumℕ}
 use Rattle.scheme.proofs.Integers.{_⊖_, ⊖-eq, ⊖-abs, ⊖-abs⁻, diff, diffs₂, diffs₃, diffs₄, mul-add}
 use Rattle.scheme.proofs.Residue.{cong-refl, cong-add}
 
@@ -74,11 +75,22 @@ abs-add =
     let v : (c ≤ d + t) × (d ≤ c + t) = ⊖-abs⁻ c d t k in
     ⊖-abs _ _ _ (omega arith) (omega arith))
 
-unfoldable pub sumℕ : ℕ → (ℕ → ℕ) → ℕ
-sumℕ zero f = 0
-sumℕ (suc n) f = sumℕ n f + f n
-
 pub sum-abs : (n : ℕ) (f : ℕ → ℤ) (g : ℕ → ℕ) → ((i : ℕ) → i < n → natAbs (f i) ≤ g i) → natAbs (sumTo n f) ≤ sumℕ n g
 unfolding sumTo sumℕ
 sum-abs zero f g h = omega arith
 sum-abs (suc n) f g h = abs-add (sumTo n f) (f n) (sumℕ n g) (g n) (sum-abs n f g (λ i k. h i (omega arith))) (h n (omega arith))
+
+-- a sum of naturals
+pub sum-pos : (n : ℕ) (f : ℕ → ℕ) → sumTo n (λ i. pos (f i)) ≡ pos (sumℕ n f)
+unfolding sumTo sumℕ
+sum-pos zero f = refl
+sum-pos (suc n) f = ap (λ z. z +ℤ pos (f n)) (sum-pos n f)
+
+-- terms of 0 at the end do not count
+pub sumℕ-tail : (n k : ℕ) (f : ℕ → ℕ) → ((i : ℕ) → n ≤ i → f i ≡ 0) → sumℕ (k + n) f ≡ sumℕ n f
+unfolding sumℕ
+sumℕ-tail n zero f h = ap (λ m. sumℕ m f) (zero-add n)
+sumℕ-tail n (suc k) f h = ap (λ m. sumℕ m f) (suc-add k n) ∙ ap₂ _+_ (sumℕ-tail n k f h) (h (k + n) (omega arith)) ∙ add-zero (sumℕ n f)
+  where
+    suc-add : (k n : ℕ) → suc k + n ≡ suc (k + n)
+    suc-add k n = omega arith

@@ -1,7 +1,7 @@
 -- Whole numbers: the quotient rounded down, the remainder, congruence, and sums.
 use mathlib.Core.Path.{_≡_}
 use mathlib.Core.Bool.{Bool, true, false}
-use Prim.Native.Nat.{ℕ, zero, suc, _-_, _/_, _%_}
+use Prim.Native.Nat.{ℕ, zero, suc, _+_, _-_, _/_, _%_}
 use lib.IntN.{ℤ, pos, negsuc, _+ℤ_, _*ℤ_}
 
 -- the first where the test holds, else the second
@@ -28,3 +28,7 @@ pub record Cong (q : ℕ) (x y : ℤ) : Type 0 where
 unfoldable pub sumTo : ℕ → (ℕ → ℤ) → ℤ
 sumTo zero f = pos 0
 sumTo (suc n) f = sumTo n f +ℤ f n
+
+unfoldable pub sumℕ : ℕ → (ℕ → ℕ) → ℕ
+sumℕ zero f = 0
+sumℕ (suc n) f = sumℕ n f + f n
