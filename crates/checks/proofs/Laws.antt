@@ -1,0 +1,96 @@
+-- Runs and scans.
+-- Assumes nothing.
+use mathlib.Core.Path.{_≡_, refl, sym, ap, _∙_}
+use mathlib.Core.Bool.{Bool, true, false, not, _&&_}
+use mathlib.Core.List.{List, [], _∷_, _++_}
+use Prim.Native.Nat.{ℕ, zero, suc, _+_, _*_, _/_, _%_, _≤_, _<_}
+use native.Mathlib.Nat.{mul-zero, mul-mod-left, mul-div-cancel, div-add-mod}
+use native.Mathlib.Numerals.{add-one}
+use native.Mathlib.Omega.{arith}
+use lib.Dec.{eqb, ltb}
+use lib.ListN.{length, getD, take}
+use lib.Seq.{take-suc, take-all}
+use borrow.Author.Tests.{eq-eqb, ne-eqb, eqb-true, eqb-false, lt-ltb, le-ltb}
+use Rattle.scheme.specs.Checks.{allOf, lengthFails, wordsFail}
+
+-- two equations that hold together
+eqb-iff : (a b c d : ℕ) → (a ≡ b → c ≡ d) → (c ≡ d → a ≡ b) → eqb a b ≡ eqb c d
+eqb-iff a b c d f g = go (eqb a b) refl
+  where
+    go : (x : Bool) → eqb a b ≡ x → x ≡ eqb c d
+    go true e = sym (eq-eqb c d (f (eqb-true a b e)))
+    go false e = sym (ne-eqb c d (λ k. eqb-false a b e (g k)))
+
+module _ (len count width : ℕ) where
+  pub runs-none : width ≡ 0 → not (eqb len 0) ≡ lengthFails len (count * width)
+  runs-none e = ap (λ n. not (eqb len n)) (sym (ap (λ w. count * w) e ∙ mul-zero count))
+
+  pub runs-cut : (len % width ≡ 0 → ⊥) → true ≡ lengthFails len (count * width)
+  runs-cut h = sym (ap not (ne-eqb len (count * width) (λ e. h (ap (λ n. n % width) e ∙ mul-mod-left count width))))
+
+  pub runs-whole : (width ≡ 0 → ⊥) → len % width ≡ 0 → not (eqb (len / width) count) ≡ lengthFails len (count * width)
+  runs-whole z h =
+      ap not
+      (eqb-iff (len / width) count len (count * width)
+      (λ e. let d = div-add-mod len width in omega (arith, d, ap (λ n. width * n) e))
+      (λ e. ap (λ n. n / width) e ∙ mul-div-cancel count (omega arith)))
+
+-- ---- a scan with no early exit
+
+all-snoc : {A : Type 0} (p : A → Bool) (xs : List A) (x : A) → allOf p (xs ++ x ∷ []) ≡ (allOf p xs && p x)
+unfolding allOf
+all-snoc p [] x = and-one (p x)
+  where
+    and-one : (a : Bool) → (a && true) ≡ a
+    and-one true = refl
+    and-one false = refl
+all-snoc p (y ∷ xs) x = ap (λ b. p y && b) (all-snoc p xs x) ∙ and-assoc (p y) (allOf p xs) (p x)
+  where
+    and-assoc : (a b c : Bool) → (a && (b && c)) ≡ ((a && b) && c)
+    and-assoc true b c = refl
+    and-assoc false b c = refl
+
+-- whether one of the first i words is not below q
+pub anyFails : ℕ → List ℕ → ℕ → Bool
+anyFails q xs i = not (allOf (λ x. ltb x q) (take i xs))
+
+module _ (q : ℕ) (xs : List ℕ) (i : ℕ) where
+  pub any-none : false ≡ anyFails q xs 0
+  unfolding anyFails allOf
+  any-none = refl
+
+  step : i < length xs → anyFails q xs (i + 1) ≡ not (allOf (λ x. ltb x q) (take i xs) && ltb (getD xs i 0) q)
+  unfolding anyFails
+  step h =
+      ap (λ n. not (allOf (λ x. ltb x q) (take n xs))) (add-one i)
+      ∙ ap (λ l. not (allOf (λ x. ltb x q) l)) (take-suc xs i 0 h)
+      ∙ ap not (all-snoc (λ x. ltb x q) (take i xs) (getD xs i 0))
+
+  pub any-hit : i < length xs → q ≤ getD xs i 0 → true ≡ anyFails q xs (i + 1)
+  any-hit h k = sym (step h ∙ ap (λ b. not (allOf (λ x. ltb x q) (take i xs) && b)) (le-ltb (getD xs i 0) q k) ∙ ap not (and-no (allOf (λ x. ltb x q) (take i xs))))
+    where
+      and-no : (a : Bool) → (a && false) ≡ false
+      and-no true = refl
+      and-no false = refl
+
+  pub any-more : {b : Bool} → b ≡ anyFails q xs i → i < length xs → getD xs i 0 < q → b ≡ anyFails q xs (i + 1)
+  unfolding anyFails
+  any-more e h k = e ∙ sym (step h ∙ ap (λ b. not (allOf (λ x. ltb x q) (take i xs) && b)) (lt-ltb (getD xs i 0) q k) ∙ ap not (and-yes (allOf (λ x. ltb x q) (take i xs))))
+    where
+      and-yes : (a : Bool) → (a && true) ≡ a
+      and-yes true = refl
+      and-yes false = refl
+
+  pub any-all : {b : Bool} → b ≡ anyFails q xs i → length xs ≤ i → b ≡ wordsFail q xs
+  unfolding anyFails wordsFail
+  any-all e h = e ∙ ap (λ l. not (allOf (λ x. ltb x q) l)) (take-all i xs h)
+
+all-below : (q : ℕ) (xs : List ℕ) → ((i : ℕ) → getD xs i 0 < q) → allOf (λ x. ltb x q) xs ≡ true
+unfolding allOf
+all-below q [] h = refl
+all-below q (x ∷ xs) h = rw (lt-ltb x q (h 0)) (all-below q xs (λ i. h (suc i)))
+
+-- words that are all below q
+pub words-below : (q : ℕ) (xs : List ℕ) → ((i : ℕ) → getD xs i 0 < q) → false ≡ wordsFail q xs
+unfolding wordsFail
+words-below q xs h = sym (ap not (all-below q xs h))

@@ -1,0 +1,81 @@
+// Checks that several calls share, each exact for every input, and the chain that keeps the first number.
+ghost use mathlib.Core.Path.{_≡_};
+ghost use Prim.Native.Nat.{_*_};
+ghost use Rattle.scheme.specs.Checks.{modulusFails, lengthFails, wordFails, wordsFail};
+ghost use Rattle.primus_reduce.specs.Ring.{meant, sizeOf};
+ghost use Rattle.checks.specs.Refuse.{Next};
+use primus_reduce::Modulus;
+
+// The refusal r so far, or `number` where there is none yet and this check fails.
+pub fn refuse(r: u32, fails: bool, number: u32) -> u32
+    ensures { λ x. ⌜ Next r fails number x ⌝ }
+{
+    if r == 0 {
+        if fails {
+            return number;
+        }
+    }
+    r
+}
+
+// 2: an explicit modulus is below 4.
+pub fn modulus_refused(q: Modulus) -> bool
+    ensures { λ r. ⌜ r ≡ modulusFails (meant q) ⌝ }
+{
+    match q {
+        Modulus::Native => false,
+        Modulus::Explicit(q) => q < 4,
+    }
+}
+
+// 9 to 12: `len` is not n.
+pub fn length_differs(len: usize, n: usize) -> bool
+    ensures { λ r. ⌜ r ≡ lengthFails len n ⌝ }
+{
+    len != n
+}
+
+// 9 to 12: `len` is not `count` runs of `width`. No product: it could overflow.
+pub fn runs_differ(len: usize, count: usize, width: usize) -> bool
+    ensures { λ r. ⌜ r ≡ lengthFails len (count * width) ⌝ }
+{
+    if width == 0 {
+        return len != 0;
+    }
+    if len % width != 0 {
+        return true;
+    }
+    len / width != count
+}
+
+// 14, one word.
+pub fn word_refused(q: Modulus, x: u32) -> bool
+    ensures { λ r. ⌜ r ≡ wordFails (sizeOf q) x ⌝ }
+{
+    q.size() <= x as u64
+}
+
+// No early exit: the loop without one runs four words at a time.
+fn any_refused(s: &[u32], q: u32) -> bool
+    ensures { λ r. ⌜ r ≡ wordsFail q (now (s .entry)) ⌝ }
+{
+    let mut any = false;
+    let mut i = 0;
+    while i < s.len() {
+        if q <= s[i] {
+            any = true;
+        }
+        i += 1;
+    }
+    any
+}
+
+// 14, a run of words. Every word is below the native modulus.
+pub fn words_refused(q: Modulus, s: &[u32]) -> bool
+    ensures { λ r. ⌜ r ≡ wordsFail (sizeOf q) (now (s .entry)) ⌝ }
+{
+    match q {
+        Modulus::Native => false,
+        Modulus::Explicit(q) => any_refused(s, q),
+    }
+}
