@@ -1,7 +1,7 @@
 // The modulus of two cases, and its value bits.
 ghost use mathlib.Core.Path.{_≡_};
 ghost use Prim.Native.Nat.{_≤_, _^_};
-ghost use Rattle.scheme.specs.Modulus.{isPower, valueBits, bits};
+ghost use Rattle.scheme.specs.Modulus.{isPower, valueBits, bits, Fits};
 ghost use Rattle.primus_reduce.specs.Ring.{meant, sizeOf, powerOfTwo};
 
 // q: native, that is 2^32, or explicit.
@@ -11,9 +11,9 @@ pub enum Modulus {
 }
 
 impl Modulus {
-    // q
+    // q, and that an explicit one is a word
     pub fn size(self) -> u64
-        ensures { λ r. ⌜ r ≡ sizeOf self ⌝ }
+        ensures { λ r. ⌜ (r ≡ sizeOf self) × Fits 32 (meant self) ⌝ }
     {
         match self {
             Modulus::Native => 0x1_0000_0000,

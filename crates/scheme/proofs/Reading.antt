@@ -22,7 +22,7 @@ use Rattle.scheme.proofs.Balanced.{rest, value, ones, digit-balanced, v
 
 -- ---- powers
 
-pow-mul : (n i j : ℕ) → n ^ (i * j) ≡ (n ^ i) ^ j
+pub pow-mul : (n i j : ℕ) → n ^ (i * j) ≡ (n ^ i) ^ j
 pow-mul n i zero = rw (mul-zero i, pow-zero n, pow-zero (n ^ i))
 pow-mul n i (suc j) = rw (mul-suc i j, pow-add n (i * j) i, pow-mul n i j, pow-suc (n ^ i) j)
 

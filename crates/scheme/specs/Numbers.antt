@@ -1,6 +1,7 @@
 -- Whole numbers: the quotient rounded down, the remainder, congruence, and sums.
 use mathlib.Core.Path.{_≡_}
 use mathlib.Core.Bool.{Bool, true, false}
+use mathlib.Core.List.{List, [], _∷_}
 use Prim.Native.Nat.{ℕ, zero, suc, _+_, _-_, _/_, _%_}
 use lib.IntN.{ℤ, pos, negsuc, _+ℤ_, _*ℤ_}
 
@@ -32,3 +33,8 @@ sumTo (suc n) f = sumTo n f +ℤ f n
 unfoldable pub sumℕ : ℕ → (ℕ → ℕ) → ℕ
 sumℕ zero f = 0
 sumℕ (suc n) f = sumℕ n f + f n
+
+-- f 0, f 1, … of n terms
+unfoldable pub tabulate : ℕ → (ℕ → ℕ) → List ℕ
+tabulate zero f = []
+tabulate (suc n) f = f 0 ∷ tabulate n (λ i. f (suc i))

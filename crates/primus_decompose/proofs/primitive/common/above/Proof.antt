@@ -1,0 +1,10 @@
+use borrow.Author.Needs.{needs}
+use Rattle.primus_decompose.proofs.Laws.{above-none}
+use Rattle.primus_decompose.proofs.primitive.common.above.Statement.{statement}
+use Rattle.primus_decompose.proofs.primitive.common.above.Tie as tie
+
+returns-2 : tie.Need-returns-2
+returns-2 c = above-none (c .before .args .log) (c .before .args .x) (c .before .fits .x .fits) (c .if1 .left)
+
+pub above-spec : {M : Type 1} → statement M
+above-spec = tie.close (tie.spec (λ c. search needs) (λ c. search needs) returns-2)

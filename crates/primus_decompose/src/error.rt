@@ -1,0 +1,38 @@
+// The answers of the calls. `Refused` holds the first number of document 01 that applies:
+// 1 base log below 2 or above 31, 2 explicit modulus below 4, 3 explicit modulus below B, 4 not one whole level fits k,
+// 5 level count 0 or above the full count, 14 a word is not below q.
+use crate::parameters::DecompositionBaseLog;
+use crate::primitive::ApproxSignedBasis;
+use crate::primitive::Reading;
+use crate::primitive::SignedDecomposer;
+use crate::primitive::ValueCarry;
+
+pub enum DecompositionBaseLogAnswer {
+    Accepted(DecompositionBaseLog),
+    Refused(u32),
+}
+
+pub enum ApproxSignedBasisAnswer {
+    Accepted(ApproxSignedBasis),
+    Refused(u32),
+}
+
+pub enum WordAnswer {
+    Word(u32),
+    Refused(u32),
+}
+
+pub enum ValueCarryAnswer {
+    Ready(ValueCarry),
+    Refused(u32),
+}
+
+pub enum DecomposerAnswer {
+    Ready(SignedDecomposer),
+    Refused(u32),
+}
+
+pub enum ReadingAnswer {
+    Read(Reading),
+    Refused(u32),
+}

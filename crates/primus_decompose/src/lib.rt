@@ -1,0 +1,20 @@
+// Approximate signed decomposition: the gadget basis, readings and digits, for words of 32 bits.
+mod error;
+mod parameters;
+mod primitive;
+
+pub use error::ApproxSignedBasisAnswer;
+pub use error::DecomposerAnswer;
+pub use error::DecompositionBaseLogAnswer;
+pub use error::ReadingAnswer;
+pub use error::ValueCarryAnswer;
+pub use error::WordAnswer;
+pub use parameters::DecompositionBaseLog;
+pub use parameters::DecompositionConfig;
+pub use parameters::DecompositionLevelCount;
+pub use parameters::RetainedLevels;
+pub use primitive::ApproxSignedBasis;
+pub use primitive::Reading;
+pub use primitive::SignedDecomposer;
+pub use primitive::Step;
+pub use primitive::ValueCarry;

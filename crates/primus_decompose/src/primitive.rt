@@ -1,0 +1,10 @@
+// Decomposition of words of 32 bits.
+mod basis;
+mod common;
+mod params;
+
+pub use basis::ApproxSignedBasis;
+pub use basis::Reading;
+pub use basis::ValueCarry;
+pub use common::SignedDecomposer;
+pub use common::Step;
