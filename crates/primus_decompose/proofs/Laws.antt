@@ -2,18 +2,23 @@
 -- Assumes nothing.
 use mathlib.Core.Path.{_≡_, refl, sym, ap, ap₂, _∙_, subst}
 use mathlib.Core.Bool.{Bool, true, false, _||_}
+use mathlib.Core.List.{List, [], _∷_}
 use Prim.Native.Nat.{ℕ, zero, suc, _+_, _-_, _*_, _/_, _%_, _^_, _≤_, _<_, max}
-use native.Mathlib.Nat.{mod-lt, mod-eq-of-lt, div-eq-of-lt, div-zero, lt-of-lt-of-le, one-mul, mul-comm, mul-le-mul}
+use native.Mathlib.Nat.{mod-lt, mod-eq-of-lt, div-eq-of-lt, div-zero, lt-of-lt-of-le, one-mul, mul-comm, mul-zero, mul-le-mul, mul-mod-right, div-lt-iff-lt-mul, le-div-iff-mul-le}
 use native.Mathlib.Omega.{arith}
-use lib.Pow.{pow-lt, pow-mono, pow-pos}
+use lib.Pow.{pow-add, pow-lt, pow-mono, pow-pos}
 use lib.Bits.{bitAnd, and-mask}
+use lib.ListN.{length, getD, set}
+use lib.Seq.{getD-set-same, getD-set-other}
+use native.Mathlib.Decide.{ℕ-discrete}
 use lib.Dec.{ltb, leb, eqb}
 use borrow.Author.Tests.{lt-ltb, le-ltb, eq-eqb, ne-eqb}
-use Rattle.scheme.specs.Numbers.{pick}
+use Rattle.scheme.specs.Numbers.{pick, tabulate}
 use Rattle.scheme.specs.Basis.{Basis, Accepted, base, boundOf, dropped}
 use Rattle.scheme.specs.Reading.{largest, threshold}
-use Rattle.scheme.proofs.Reading.{pow-mul, threshold-half}
-use Rattle.scheme.proofs.Checks.{Sound, accepted-basis}
+use Rattle.scheme.proofs.Reading.{pow-mul, weight-power, threshold-half}
+use Rattle.scheme.proofs.Lists.{tabulate-ext}
+use Rattle.scheme.proofs.Checks.{Sound, accepted-basis, passed, passed-append, word-ok}
 use Rattle.primus_decompose.specs.Params.{wrapAt, Sized, Ready, basisBy, basisIn, initOf, decomposerOf}
 use Rattle.primus_decompose.specs.declared.primitive.basis.ValueCarry.{ValueCarry}
 use Rattle.primus_decompose.specs.declared.primitive.params.Params.{Params}
@@ -22,14 +27,15 @@ use Rattle.primus_reduce.proofs.Laws.{one-shl, product-most}
 use Rattle.primus_decompose.specs.declared.primitive.common.SignedDecomposer.{SignedDecomposer}
 use Rattle.primus_decompose.specs.declared.primitive.common.Step.{Step}
 use Rattle.primus_decompose.specs.Step.{windowOf, stepTo, stepOf}
-use Rattle.scheme.specs.Checks.{basisRefusal}
+use Rattle.scheme.specs.Checks.{row, firstOf, basisRefusal, wordFails}
 use Rattle.primus_reduce.specs.Ring.{meant, sizeOf}
 use Rattle.primus_reduce.specs.declared.modulus.Modulus.{Modulus}
 use Rattle.primus_decompose.specs.declared.error.ApproxSignedBasisAnswer.the-variants as A
 use Rattle.primus_decompose.specs.declared.parameters.DecompositionBaseLog.{DecompositionBaseLog}
 use Rattle.primus_decompose.specs.declared.parameters.DecompositionLevelCount.{DecompositionLevelCount}
 use Rattle.primus_decompose.specs.declared.parameters.RetainedLevels.{RetainedLevels}
-use Rattle.primus_decompose.specs.Answers.{levelCount, tried, basisAnswer}
+use Rattle.primus_decompose.specs.Answers.{levelCount, tried, basisAnswer, basis, rows, weightWord, scalarAt, wordRefusal}
+use Rattle.primus_decompose.specs.declared.primitive.basis.ApproxSignedBasis.{ApproxSignedBasis}
 
 -- ---- words and powers of two
 
@@ -302,3 +308,59 @@ module _ (p : Params) (r : Ready p) (a : ℕ) (h : a < sizeOf (p .modulus)) wher
   decomposer-is s e =
       ap₂ (λ x d. record { value = x .value / 2 ^ d; carry = x .carry; «log_basis» = p .«log_basis»; «modulus_minus_basis» = p .«modulus_minus_basis» }) e (r .dropped-is)
       ∙ ap (λ o. record { value = initOf (basisIn p) a .value / 2 ^ dropped (basisIn p); carry = initOf (basisIn p) a .carry; «log_basis» = p .«log_basis»; «modulus_minus_basis» = o }) (r .offset-is)
+
+-- ---- getters
+
+module _ (k log L : ℕ) where
+  pub drop-none : log ≡ 0 → (k ≡ k - L * log) × (k ≤ k)
+  drop-none e = (rw e (omega (arith, mul-zero L)), omega arith)
+
+  pub drop-over : (log ≡ 0 → ⊥) → k / log < L → (0 ≡ k - L * log) × (0 ≤ k)
+  drop-over z h = let l : k < L * log = div-lt-iff-lt-mul {k = log} {x = k} {y = L} (omega arith) .0 h in (omega arith, omega arith)
+
+  pub drop-room : (log ≡ 0 → ⊥) → L ≤ k / log → L * log ≤ k
+  drop-room z h = le-div-iff-mul-le {k = log} {x = L} {y = k} (omega arith) .0 h
+
+pub power-over : (n : ℕ) → 32 ≤ n → 0 ≡ 2 ^ n % 2 ^ 32
+power-over n h = sym (ap (λ e. 2 ^ e % 2 ^ 32) (omega arith) ∙ ap (λ p. p % 2 ^ 32) (pow-add 2 32 (n - 32)) ∙ mul-mod-right (2 ^ 32) (2 ^ (n - 32)))
+
+pub power-under : (n : ℕ) → n < 32 → (1 * 2 ^ n) % 2 ^ 32 ≡ 2 ^ n % 2 ^ 32
+power-under n h = ap (λ x. x % 2 ^ 32) (one-mul (2 ^ n))
+
+pub scalar-none : (d log L j : ℕ) → L ≤ j → 0 ≡ scalarAt d log L j
+scalar-none d log L j h = rw (le-ltb j L h)
+
+pub scalar-some : (d log L j r : ℕ) → j < L → r ≡ 2 ^ (d + j * log) % 2 ^ 32 → r ≡ scalarAt d log L j
+scalar-some d log L j r h e = rw (lt-ltb j L h) e
+
+-- j < 16 and two words: the exponent fits
+pub exponent-most : (j log : ℕ) → j < 16 → log < 2 ^ 32 → j * log ≤ 15 * 4294967295
+exponent-most j log h k = mul-le-mul {n₁ = j} {m₁ = log} {n₂ = 15} {m₂ = 4294967295} (omega arith) (omega arith)
+
+pub weights-are : (b : ApproxSignedBasis) (d : ℕ) → d ≡ dropped (basis b)
+    → tabulate 16 (scalarAt d (b .«log_basis» .0) (b .«level_count» .0)) ≡ tabulate 16 (weightWord b)
+weights-are b d e =
+    tabulate-ext 16 _ _
+    (λ j h. ap (λ n. pick (ltb j (b .«level_count» .0)) (n % 2 ^ 32) 0)
+    (ap (λ n. 2 ^ (n + j * b .«log_basis» .0)) e ∙ sym (weight-power (basis b) j)))
+
+-- ---- what a passed refusal leaves
+
+module _ (b : ApproxSignedBasis) where
+  pub word-passed : (a : ℕ) → wordRefusal b a ≡ 0 → (firstOf (rows b) ≡ 0) × (a < sizeOf (b .modulus))
+  word-passed a e =
+      let p = passed-append (rows b) (row (wordFails (sizeOf (b .modulus)) a) 14 ∷ []) tt e in
+      (p .0, word-ok (sizeOf (b .modulus)) a (passed (row (wordFails (sizeOf (b .modulus)) a) 14 ∷ []) tt (p .1) .0))
+
+-- ---- a call that judges, prepares and answers
+pub answered : {A B : Type 0} (f : B → A) (r : ℕ) (x y : B) (z : A) → x ≡ y → r ≡ 0 → f x ≡ pick (eqb r 0) (f y) z
+answered f r x y z e h = ap f e ∙ answer-given r (f y) z h
+
+-- a loop that stores f j at place j
+pub store-next : (w : List ℕ) (f : ℕ → ℕ) (j v : ℕ) → j < length w → v ≡ f j → ((i : ℕ) → i < j → getD w i 0 ≡ f i)
+    → (i : ℕ) → i < j + 1 → getD (set w j v) i 0 ≡ f i
+store-next w f j v l e h i k = go (ℕ-discrete i j)
+  where
+    go : Dec (i ≡ j) → getD (set w j v) i 0 ≡ f i
+    go (yes p) = ap (λ n. getD (set w j v) n 0) p ∙ getD-set-same w j v 0 l ∙ e ∙ ap f (sym p)
+    go (no p) = getD-set-other w j i v 0 p ∙ h i (omega arith)

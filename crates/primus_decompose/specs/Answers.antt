@@ -63,6 +63,13 @@ rows b = basisRows 32 (meant (b .modulus)) (b .«log_basis» .0) (b .«level_cou
 abbrev pub baseWord : ApproxSignedBasis → ℕ
 baseWord b = 2 ^ b .«log_basis» .0 % 2 ^ 32
 
+-- weight j as a word, for j below L; there are no others
+abbrev pub weightWord : ApproxSignedBasis → ℕ → ℕ
+weightWord b j = pick (ltb j (b .«level_count» .0)) (B.weight (basis b) j % 2 ^ 32) 0
+
+abbrev pub scalarAt : ℕ → ℕ → ℕ → ℕ → ℕ
+scalarAt d log L j = pick (ltb j L) (2 ^ (d + j * log) % 2 ^ 32) 0
+
 -- T, or the first of 1 to 5
 abbrev pub thresholdAnswer : ApproxSignedBasis → WordAnswer
 thresholdAnswer b = pick (eqb (firstOf (rows b)) 0) (W.Word (R.threshold (basis b))) (W.Refused (firstOf (rows b)))

@@ -4,7 +4,7 @@
 -- Assumes nothing.
 use mathlib.Core.Path.{_≡_, refl, sym, ap, _∙_}
 use mathlib.Core.Bool.{Bool, true, false, not, _||_, _&&_}
-use mathlib.Core.List.{List, [], _∷_}
+use mathlib.Core.List.{List, [], _∷_, _++_}
 use Prim.Native.Nat.{ℕ, zero, suc, _+_, _*_, _/_, _^_, _≤_, _<_}
 use native.Mathlib.Nat.{le-div-iff-mul-le}
 use native.Mathlib.Decide.{decLe}
@@ -40,6 +40,20 @@ passed (c ∷ cs) t e = go (c .fails) refl (λ f. passed cs (and-yes (not (eqb (
         let z : c .number ≡ 0 = sym (ap (λ x. pick x (c .number) (firstOf cs)) h) ∙ e in
         absurd (eqb-no (and-yes (not (eqb (c .number) 0)) (numbered cs) t .0) z)
     go false h rest = (h, rest (sym (ap (λ x. pick x (c .number) (firstOf cs)) h) ∙ e))
+
+-- a longer table has no refusal where its two parts have none
+pub passed-append : (cs ds : List Check) → T (numbered cs) → firstOf (cs ++ ds) ≡ 0 → (firstOf cs ≡ 0) × (firstOf ds ≡ 0)
+unfolding firstOf
+passed-append [] ds t e = (refl, e)
+passed-append (c ∷ cs) ds t e = go (c .fails) refl (λ f. passed-append cs ds (and-yes (not (eqb (c .number) 0)) (numbered cs) t .1) f)
+  where
+    go : (b : Bool) → c .fails ≡ b → (firstOf (cs ++ ds) ≡ 0 → (firstOf cs ≡ 0) × (firstOf ds ≡ 0)) → (pick (c .fails) (c .number) (firstOf cs) ≡ 0) × (firstOf ds ≡ 0)
+    go true h rest =
+        let z : c .number ≡ 0 = sym (ap (λ x. pick x (c .number) (firstOf (cs ++ ds))) h) ∙ e in
+        absurd (eqb-no (and-yes (not (eqb (c .number) 0)) (numbered cs) t .0) z)
+    go false h rest =
+        let r = rest (sym (ap (λ x. pick x (c .number) (firstOf (cs ++ ds))) h) ∙ e) in
+        (ap (λ x. pick x (c .number) (firstOf cs)) h ∙ r .0, r .1)
 
 or-left : (a b : Bool) → (a || b) ≡ false → a ≡ false
 or-left true b e = e
@@ -122,7 +136,7 @@ accepted-basis w m b L f e =
           };
       log-least = l .0;
       log-most = l .1;
-      bits-within = bits-most w m (omega arith) f;
+      bits-within = bits-most w m;
       levels-within = r;
     }
 

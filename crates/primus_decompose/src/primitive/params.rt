@@ -1,6 +1,6 @@
 // The checks of a basis, its constants, and where the walk of a word begins.
 ghost use mathlib.Core.Path.{_≡_};
-ghost use Prim.Native.Nat.{_+_, _*_, _-_, _/_, _^_, _<_, _≤_, max};
+ghost use Prim.Native.Nat.{_+_, _*_, _-_, _/_, _%_, _^_, _<_, _≤_, max};
 ghost use lib.Dec.{ltb, eqb};
 ghost use Rattle.scheme.specs.Numbers.{pick};
 ghost use Rattle.scheme.specs.Basis.{boundOf};
@@ -32,6 +32,26 @@ pub(crate) fn full_count(bits: u32, log: u32) -> usize
         return 0;
     }
     (bits / log) as usize
+}
+
+// d = k − L × base log, or 0 where the levels do not fit.
+pub(crate) fn drop_bits(bits: u32, log: u32, levels: usize) -> u32
+    ensures { λ r. ⌜ (r ≡ bits - levels * log) × (r ≤ bits) ⌝ }
+{
+    if log == 0 {
+        return bits;
+    }
+    if full_count(bits, log) < levels {
+        return 0;
+    }
+    bits - levels as u32 * log
+}
+
+// 2^n as a word: 0 from 2^32 on.
+pub(crate) fn power_word(n: u64) -> u32
+    ensures { λ r. ⌜ r ≡ 2 ^ n % 2 ^ 32 ⌝ }
+{
+    if n < 32 { 1 << n } else { 0 }
 }
 
 fn below_basis(q: u32, log: u32) -> bool
@@ -116,7 +136,7 @@ fn wrap_threshold(log: u32, levels: u32, d: u32) -> u32
 
 pub(crate) fn prepare(modulus: Modulus, log: u32, levels: usize) -> Params
     requires { ⌜ basisRefusal 32 (meant modulus) log levels ≡ 0 ⌝ }
-    ensures { λ r. ⌜ Ready r × (basisIn r ≡ basisBy modulus log levels) ⌝ }
+    ensures { λ r. ⌜ Ready r × (basisIn r ≡ basisBy modulus log levels) × (r .modulus ≡ modulus) × (r .«level_count» ≡ levels) ⌝ }
 {
     let q = modulus.size();
     let bits = modulus.value_bits();

@@ -73,6 +73,8 @@ returns c =
       ready-of (s .args .modulus) (s .args .log) (s .args .levels) (sound (v .before)) _ _ (v .value-bits .ensures) (v .before .size .ensures .0) _ _ _
           (c .before .before .wrap-threshold .ensures) (c .before .power .ensures) (c .power2 .ensures),
       refl,
+      refl,
+      refl,
     )
 
 pub prepare-spec : {M : Type 1} → statement M
