@@ -18,7 +18,7 @@ use Rattle.scheme.specs.Basis.{Basis, Accepted, base, boundOf, dropped}
 use Rattle.scheme.specs.Reading.{largest, threshold}
 use Rattle.scheme.proofs.Reading.{pow-mul, weight-power, threshold-half}
 use Rattle.scheme.proofs.Lists.{tabulate-ext}
-use Rattle.scheme.proofs.Checks.{Sound, accepted-basis, passed, passed-append, word-ok}
+use Rattle.scheme.proofs.Checks.{Sound, accepted-basis, passed, passed-append, length-ok, word-ok, words-ok}
 use Rattle.primus_decompose.specs.Params.{wrapAt, Sized, Ready, basisBy, basisIn, initOf, decomposerOf}
 use Rattle.primus_decompose.specs.declared.primitive.basis.ValueCarry.{ValueCarry}
 use Rattle.primus_decompose.specs.declared.primitive.params.Params.{Params}
@@ -27,14 +27,14 @@ use Rattle.primus_reduce.proofs.Laws.{one-shl, product-most}
 use Rattle.primus_decompose.specs.declared.primitive.common.SignedDecomposer.{SignedDecomposer}
 use Rattle.primus_decompose.specs.declared.primitive.common.Step.{Step}
 use Rattle.primus_decompose.specs.Step.{windowOf, stepTo, stepOf}
-use Rattle.scheme.specs.Checks.{row, firstOf, basisRefusal, wordFails}
+use Rattle.scheme.specs.Checks.{row, firstOf, basisRefusal, lengthFails, wordFails, wordsFail}
 use Rattle.primus_reduce.specs.Ring.{meant, sizeOf}
 use Rattle.primus_reduce.specs.declared.modulus.Modulus.{Modulus}
 use Rattle.primus_decompose.specs.declared.error.ApproxSignedBasisAnswer.the-variants as A
 use Rattle.primus_decompose.specs.declared.parameters.DecompositionBaseLog.{DecompositionBaseLog}
 use Rattle.primus_decompose.specs.declared.parameters.DecompositionLevelCount.{DecompositionLevelCount}
 use Rattle.primus_decompose.specs.declared.parameters.RetainedLevels.{RetainedLevels}
-use Rattle.primus_decompose.specs.Answers.{levelCount, tried, basisAnswer, basis, rows, weightWord, scalarAt, wordRefusal}
+use Rattle.primus_decompose.specs.Answers.{levelCount, tried, basisAnswer, basis, rows, weightWord, scalarAt, wordRefusal, decomposeRefusal, sliceRefusal}
 use Rattle.primus_decompose.specs.declared.primitive.basis.ApproxSignedBasis.{ApproxSignedBasis}
 
 -- ---- words and powers of two
@@ -364,3 +364,20 @@ store-next w f j v l e h i k = go (ℕ-discrete i j)
     go : Dec (i ≡ j) → getD (set w j v) i 0 ≡ f i
     go (yes p) = ap (λ n. getD (set w j v) n 0) p ∙ getD-set-same w j v 0 l ∙ e ∙ ap f (sym p)
     go (no p) = getD-set-other w j i v 0 p ∙ h i (omega arith)
+
+-- the calls that write digits
+module _ (b : ApproxSignedBasis) where
+  pub digits-passed : (a n : ℕ) → decomposeRefusal b a n ≡ 0 → (firstOf (rows b) ≡ 0) × (n ≡ b .«level_count» .0) × (a < sizeOf (b .modulus))
+  digits-passed a n e =
+      let ds = row (lengthFails n (b .«level_count» .0)) 11 ∷ row (wordFails (sizeOf (b .modulus)) a) 14 ∷ [] in
+      let p = passed-append (rows b) ds tt e in
+      let q = passed ds tt (p .1) in
+      (p .0, length-ok n (b .«level_count» .0) (q .0), word-ok (sizeOf (b .modulus)) a (q .1 .0))
+
+  pub slice-passed : (xs : List ℕ) (n : ℕ) → sliceRefusal b xs n ≡ 0
+      → (firstOf (rows b) ≡ 0) × (n ≡ b .«level_count» .0 * length xs) × ((i : ℕ) → i < length xs → getD xs i 0 < sizeOf (b .modulus))
+  slice-passed xs n e =
+      let ds = row (lengthFails n (b .«level_count» .0 * length xs)) 11 ∷ row (wordsFail (sizeOf (b .modulus)) xs) 14 ∷ [] in
+      let p = passed-append (rows b) ds tt e in
+      let q = passed ds tt (p .1) in
+      (p .0, length-ok n (b .«level_count» .0 * length xs) (q .0), words-ok (sizeOf (b .modulus)) xs (q .1 .0))

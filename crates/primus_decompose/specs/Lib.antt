@@ -1,3 +1,4 @@
 pub mod Answers
 pub mod Step
 pub mod Params
+pub mod Column

@@ -2,6 +2,8 @@
 mod basis;
 mod common;
 mod params;
+mod reading;
+mod slice;
 
 pub use basis::ApproxSignedBasis;
 pub use basis::Reading;

@@ -102,7 +102,7 @@ pub(crate) fn basis_refusal(modulus: Modulus, log: u32, levels: usize) -> u32
 }
 
 // 2^n
-fn power(n: u32) -> u64
+pub(crate) fn power(n: u32) -> u64
     requires { ⌜ n ≤ 32 ⌝ }
     ensures { λ r. ⌜ r ≡ 2 ^ n ⌝ }
 {

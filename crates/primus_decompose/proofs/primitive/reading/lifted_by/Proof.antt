@@ -1,0 +1,14 @@
+use borrow.Author.Needs.{needs}
+use Rattle.primus_decompose.proofs.Laws.{adjust-below}
+use borrow.Author.Tests.{lt-ltb, le-ltb}
+use Rattle.primus_decompose.proofs.primitive.reading.lifted_by.Statement.{statement}
+use Rattle.primus_decompose.proofs.primitive.reading.lifted_by.Tie as tie
+
+returns : tie.Need-returns
+returns c = rw (lt-ltb _ _ (c .if1 .taken))
+
+returns-2 : tie.Need-returns-2
+returns-2 c = rw (le-ltb _ _ (c .if1 .left))
+
+pub lifted-by-spec : {M : Type 1} → statement M
+lifted-by-spec = tie.close (tie.spec returns returns-2)
