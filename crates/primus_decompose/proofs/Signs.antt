@@ -12,6 +12,7 @@ use lib.Signed.{mag}
 use mir.Syntax.{w64}
 use mir.Val.{SFits, toZ, ofZ}
 use mir.Facts.{toZ-pos, toZ-ofZ}
+use borrow.Author.Tests.{lt-ltb, le-ltb}
 use Rattle.scheme.specs.Numbers.{pick}
 use Rattle.scheme.specs.Basis.{boundOf, dropped, bound}
 use Rattle.scheme.specs.Reading.{threshold, reading, rounding}
@@ -65,3 +66,10 @@ lost-most a T q h = go (ltb a T)
     go : (b : Bool) → pick b 0 q ≤ 2 ^ 32
     go true = omega arith
     go false = h
+
+-- the two ways through a signed digit
+pub signed-small : (d h w : ℕ) (x : ℤ) → h ≡ w → d < h / 2 → pos d -ℤ pos 0 ≡ pick (ltb d (w / 2)) (pos d) x
+signed-small d h w x e k = rw (← e, lt-ltb d (h / 2) k) (simp diff (⊖-eq _ _ _ _ (omega arith)))
+
+pub signed-large : (d h w s q : ℕ) → h ≡ w → s ≡ q → h / 2 ≤ d → pos d -ℤ pos s ≡ pick (ltb d (w / 2)) (pos d) (pos d -ℤ pos q)
+signed-large d h w s q e f k = rw (← e, f, le-ltb d (h / 2) k)

@@ -1,8 +1,9 @@
 -- The answers of the calls: the value that a definition gives, or the first number that applies.
 use mathlib.Core.Bool.{Bool}
 use mathlib.Core.List.{List, [], _∷_, _++_}
-use Prim.Native.Nat.{ℕ, _+_, _*_, _%_, _^_}
+use Prim.Native.Nat.{ℕ, _+_, _*_, _/_, _%_, _^_}
 use lib.Dec.{eqb, ltb}
+use lib.IntN.{ℤ, pos, _-ℤ_}
 use lib.ListN.{length}
 use Rattle.scheme.specs.Numbers.{pick}
 use Rattle.scheme.specs.Modulus as S
@@ -90,6 +91,10 @@ readingOf b a = record { reading = R.reading b a; error = R.rounding b a }
 
 abbrev pub readingAnswer : ApproxSignedBasis → ℕ → ReadingAnswer
 readingAnswer b a = pick (eqb (wordRefusal b a) 0) (E.Read (readingOf (basis b) a)) (E.Refused (wordRefusal b a))
+
+-- a stored digit as a signed number: itself below B/2, else q less
+abbrev pub signedDigit : ApproxSignedBasis → ℕ → ℤ
+signedDigit b w = pick (ltb w (baseWord b / 2)) (pos w) (pos w -ℤ pos (sizeOf (b .modulus)))
 
 -- the calls that write digits judge 1 to 5, 11 and 14
 abbrev pub decomposeRefusal : ApproxSignedBasis → ℕ → ℕ → ℕ

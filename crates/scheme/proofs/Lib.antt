@@ -8,4 +8,5 @@ pub mod Window
 pub mod Modulus
 pub mod Checks
 pub mod Walk
+pub mod Stored
 pub mod Cases

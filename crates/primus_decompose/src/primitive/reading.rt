@@ -5,7 +5,7 @@ ghost use lib.Dec.{ltb};
 ghost use lib.IntN.{pos, _-ℤ_};
 ghost use Rattle.scheme.specs.Numbers.{pick};
 ghost use Rattle.primus_reduce.specs.Ring.{sizeOf};
-ghost use Rattle.primus_decompose.specs.Answers.{readingOf, readingAnswer};
+ghost use Rattle.primus_decompose.specs.Answers.{readingOf, readingAnswer, signedDigit};
 ghost use Rattle.primus_decompose.specs.Params.{Ready, basisIn};
 use crate::error::ReadingAnswer;
 use crate::primitive::basis::ApproxSignedBasis;
@@ -45,6 +45,17 @@ fn read(p: Params, a: u32) -> Reading
 }
 
 impl ApproxSignedBasis {
+    // The number that a stored digit stands for: itself below B/2, else q less.
+    pub fn signed_digit(self, digit: u32) -> i64
+        ensures { λ r. ⌜ r ≡ signedDigit self digit ⌝ }
+    {
+        if digit < self.basis_value() / 2 {
+            return minus(digit as u64, 0);
+        }
+        let modulus = self.modulus();
+        minus(digit as u64, modulus.size())
+    }
+
     // The reading and ε. Refuses by 1 to 5, 14.
     pub fn reading(self, value: u32) -> ReadingAnswer
         ensures { λ r. ⌜ r ≡ readingAnswer self value ⌝ }

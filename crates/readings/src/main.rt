@@ -1,0 +1,7 @@
+// The program `readings` of document 01: standard input to standard output.
+use libc::STDIN_FILENO;
+use libc::STDOUT_FILENO;
+
+fn main() {
+    readings_core::run(STDIN_FILENO, STDOUT_FILENO);
+}

@@ -1,0 +1,27 @@
+use mathlib.Core.Path.{ap, ap₂, _∙_}
+use borrow.Author.Needs.{needs}
+use borrow.Author.Tests.{lt-leb, le-leb}
+use Rattle.readings_core.specs.Program.{modulusFor, levelsFor}
+use Rattle.readings_core.proofs.Laws.{same-basis}
+use Rattle.readings_core.proofs.command.basis_command.Statement.{statement}
+use Rattle.readings_core.proofs.command.basis_command.Tie as tie
+
+returns : tie.Need-returns
+returns c = rw (lt-leb 6 _ (c .before .if1 .taken)) (c .end .ensures)
+
+returns-2 : tie.Need-returns-2
+returns-2 c =
+    let l = c .before in
+    let w5 = l .before in
+    let w4 = w5 .before .before in
+    let m = w4 .before .before in
+    let q = m .before in
+    let e = q .before in
+    let s = e .before .before in
+    rw (le-leb 6 _ (e .if1 .left))
+    (c .on-basis .ensures
+    ∙ same-basis (s .args .session) _ _ _ _ _ _ (m .modulus-for .ensures ∙ ap modulusFor (q .word-at .ensures)) (w4 .wide .ensures .0)
+    (l .levels-for .ensures ∙ ap levelsFor (w5 .wide2 .ensures .0)))
+
+pub basis-command-spec : {M : Type 1} → statement M
+basis-command-spec = tie.close (tie.spec (λ c κs. tt) returns (λ c κs. search needs) (λ c κs. tt) (λ c. search needs) (λ c κs. tt) (λ c. search needs) (λ c κs. tt) (λ c κs. tt) (λ c κs. tt) returns-2)

@@ -1,0 +1,115 @@
+-- "The program `readings`": what a command answers, and what it leaves for the next.
+use mathlib.Core.Bool.{Bool, true, false}
+use mathlib.Core.List.{List}
+use Prim.Native.Nat.{ℕ, zero, suc, _+_, _*_}
+use lib.Dec.{leb, eqb}
+use lib.ListN.{length, getD}
+use Rattle.scheme.specs.Numbers.{pick}
+use Rattle.scheme.specs.Modulus as S
+use Rattle.scheme.specs.Basis as B
+use Rattle.primus_reduce.specs.Ring.{meant}
+use Rattle.primus_reduce.specs.declared.modulus.Modulus.{Modulus}
+use Rattle.primus_reduce.specs.declared.modulus.Modulus.the-variants.{Native, Explicit}
+use Rattle.primus_decompose.specs.Answers as A
+use Rattle.primus_decompose.specs.declared.error.ApproxSignedBasisAnswer.{ApproxSignedBasisAnswer}
+use Rattle.primus_decompose.specs.declared.error.ApproxSignedBasisAnswer.the-variants as Tried
+use Rattle.primus_decompose.specs.declared.error.DecompositionBaseLogAnswer.{DecompositionBaseLogAnswer}
+use Rattle.primus_decompose.specs.declared.error.DecompositionBaseLogAnswer.the-variants as Log
+use Rattle.primus_decompose.specs.declared.error.ReadingAnswer.{ReadingAnswer}
+use Rattle.primus_decompose.specs.declared.error.ReadingAnswer.the-variants as E
+use Rattle.primus_decompose.specs.declared.error.WordAnswer.{WordAnswer}
+use Rattle.primus_decompose.specs.declared.error.WordAnswer.the-variants as W
+use Rattle.primus_decompose.specs.declared.parameters.RetainedLevels.{RetainedLevels}
+use Rattle.primus_decompose.specs.declared.parameters.RetainedLevels.the-variants as Levels
+use Rattle.primus_decompose.specs.declared.primitive.basis.ApproxSignedBasis.{ApproxSignedBasis}
+use Rattle.readings_core.specs.declared.command.Session.{Session}
+use Rattle.readings_core.specs.declared.command.Session.the-variants.{Empty, Ready}
+use Rattle.readings_core.specs.declared.command.BasisReply.{BasisReply}
+use Rattle.readings_core.specs.declared.command.Reply.{Reply}
+use Rattle.readings_core.specs.declared.command.Reply.the-variants.{Basis, Word, Refused}
+use Rattle.readings_core.specs.declared.command.Turn.{Turn}
+
+-- "01: modulus (4 bytes), base log (1), levels (1). 02: word (4)."
+abbrev pub operands : ℕ → ℕ
+operands c = pick (eqb c 1) 6 (pick (eqb c 2) 4 0)
+
+-- "operands are little-endian"
+unfoldable pub wordAt : List ℕ → ℕ → ℕ
+wordAt s i = getD s i 0 + 256 * getD s (i + 1) 0 + 65536 * getD s (i + 2) 0 + 16777216 * getD s (i + 3) 0
+
+-- "modulus (4 bytes, 0 = native)", and back
+abbrev pub modulusFor : ℕ → Modulus
+modulusFor q = pick (eqb q 0) Native (Explicit q)
+
+abbrev pub numberOf : Modulus → ℕ
+numberOf Native = 0
+numberOf (Explicit q) = q
+
+-- "levels (1, 0 = left open)"
+abbrev pub levelsFor : ℕ → RetainedLevels
+levelsFor n = pick (eqb n 0) Levels.Full (Levels.Count (record { 0 = n }))
+
+-- the basis of these numbers, or the first of 1 to 5: 1 is the base log's own
+abbrev pub madeFrom : Modulus → RetainedLevels → DecompositionBaseLogAnswer → ApproxSignedBasisAnswer
+madeFrom m l (Log.Accepted b) = A.basisAnswer m b l
+madeFrom m l (Log.Refused n) = Tried.Refused n
+
+abbrev pub made : Modulus → ℕ → RetainedLevels → ApproxSignedBasisAnswer
+made m b l = madeFrom m l (A.baseLogAnswer b)
+
+-- "`basis` q (0 = native) k base-log L d H T"
+abbrev pub basisLine : ApproxSignedBasis → ℕ → BasisReply
+basisLine b t =
+    record {
+      modulus = numberOf (b .modulus);
+      «value_bits» = S.bits 32 (meant (b .modulus));
+      «log_basis» = b .«log_basis» .0;
+      «level_count» = b .«level_count» .0;
+      «drop_bits» = B.dropped (A.basis b);
+      «error_bound» = B.bound (A.basis b);
+      threshold = t;
+    }
+
+abbrev pub basisFrom : ApproxSignedBasis → WordAnswer → Reply
+basisFrom b (W.Word t) = Basis (basisLine b t)
+basisFrom b (W.Refused n) = Refused n
+
+abbrev pub basisReply : ApproxSignedBasis → Reply
+basisReply b = basisFrom b (A.thresholdAnswer b)
+
+abbrev pub go : Reply → Session → Turn
+go r s = record { reply = r; session = s; more = true }
+
+-- "A refused basis keeps the earlier one."
+abbrev pub afterBasis : Session → ApproxSignedBasisAnswer → Turn
+afterBasis s (Tried.Accepted b) = go (basisReply b) (Ready b)
+afterBasis s (Tried.Refused n) = go (Refused n) s
+
+abbrev pub basisTurn : Session → Modulus → ℕ → RetainedLevels → Turn
+basisTurn s m b l = afterBasis s (made m b l)
+
+-- "`word` a reading ε", or the first refusal
+abbrev pub wordFrom : ℕ → ReadingAnswer → Reply
+wordFrom a (E.Read r) = Word (record { word = a; reading = r .reading; error = r .error })
+wordFrom a (E.Refused n) = Refused n
+
+abbrev pub wordReply : ApproxSignedBasis → ℕ → Reply
+wordReply b a = wordFrom a (A.readingAnswer b a)
+
+-- "18. A whole word command comes before any accepted basis."
+abbrev pub wordTurn : Session → ℕ → Turn
+wordTurn Empty a = go (Refused 18) Empty
+wordTurn (Ready b) a = go (wordReply b a) (Ready b)
+
+-- "19. The command is unknown or its operands are cut off"; "After 19 it ends."
+abbrev pub over : Session → Turn
+over s = record { reply = Refused 19; session = s; more = false }
+
+abbrev pub basisCommand : Session → List ℕ → Turn
+basisCommand s xs = pick (leb 6 (length xs)) (basisTurn s (modulusFor (wordAt xs 0)) (getD xs 4 0) (levelsFor (getD xs 5 0))) (over s)
+
+abbrev pub wordCommand : Session → List ℕ → Turn
+wordCommand s xs = pick (leb 4 (length xs)) (wordTurn s (wordAt xs 0)) (over s)
+
+abbrev pub turnOf : Session → ℕ → List ℕ → Turn
+turnOf s c xs = pick (eqb c 1) (basisCommand s xs) (pick (eqb c 2) (wordCommand s xs) (over s))

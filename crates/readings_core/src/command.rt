@@ -1,0 +1,238 @@
+// One command: what it answers, and what it leaves for the next.
+ghost use mathlib.Core.Path.{_≡_};
+ghost use Prim.Native.Nat.{_+_, _*_, _<_, _≤_};
+ghost use lib.ListN.{length};
+ghost use Rattle.readings_core.specs.Program.{operands, wordAt, modulusFor, levelsFor, made, numberOf, basisLine, basisReply, basisTurn, wordReply, wordTurn, over, basisCommand, wordCommand, turnOf};
+use primus_decompose::ApproxSignedBasis;
+use primus_decompose::ApproxSignedBasisAnswer;
+use primus_decompose::DecompositionBaseLog;
+use primus_decompose::DecompositionBaseLogAnswer;
+use primus_decompose::DecompositionLevelCount;
+use primus_decompose::ReadingAnswer;
+use primus_decompose::RetainedLevels;
+use primus_decompose::WordAnswer;
+use primus_reduce::Modulus;
+
+// The basis that was accepted last, if any.
+pub enum Session {
+    Empty,
+    Ready(ApproxSignedBasis),
+}
+
+// `basis` q (0 = native) k base-log L d H T
+pub struct BasisReply {
+    pub modulus: u32,
+    pub value_bits: u32,
+    pub log_basis: u32,
+    pub level_count: usize,
+    pub drop_bits: u32,
+    pub error_bound: u32,
+    pub threshold: u32,
+}
+
+// `word` a reading ε, before its digits
+pub struct WordReply {
+    pub word: u32,
+    pub reading: i64,
+    pub error: i64,
+}
+
+pub enum Reply {
+    Basis(BasisReply),
+    Word(WordReply),
+    Refused(u32),
+}
+
+// An answer, the session after it, and whether the program goes on.
+pub struct Turn {
+    pub reply: Reply,
+    pub session: Session,
+    pub more: bool,
+}
+
+// Bytes of operands: 6 for a basis, 4 for a word; an unknown command has none.
+pub fn operand_count(command: u8) -> usize
+    ensures { λ r. ⌜ (r ≡ operands command) × (r ≤ 6) ⌝ }
+{
+    if command == 1 {
+        return 6;
+    }
+    if command == 2 {
+        return 4;
+    }
+    0
+}
+
+fn wide(b: u8) -> u32
+    ensures { λ r. ⌜ (r ≡ b) × (r < 256) ⌝ }
+{
+    b as u32
+}
+
+// Four bytes from place i on, little-endian.
+fn word_at(s: &[u8], i: usize) -> u32
+    requires { ⌜ i + 4 ≤ length (now s) ⌝ }
+    ensures { λ r. ⌜ r ≡ wordAt (now (s .entry)) i ⌝ }
+{
+    wide(s[i]) + 256 * wide(s[i + 1]) + 65536 * wide(s[i + 2]) + 16777216 * wide(s[i + 3])
+}
+
+// 0 is native.
+fn modulus_for(q: u32) -> Modulus
+    ensures { λ r. ⌜ r ≡ modulusFor q ⌝ }
+{
+    if q == 0 {
+        return Modulus::Native;
+    }
+    Modulus::Explicit(q)
+}
+
+// 0 is left open.
+fn levels_for(n: u32) -> RetainedLevels
+    ensures { λ r. ⌜ r ≡ levelsFor n ⌝ }
+{
+    if n == 0 {
+        return RetainedLevels::Full;
+    }
+    RetainedLevels::Count(DecompositionLevelCount::new(n as usize))
+}
+
+// A basis from plain numbers: check 1 is the base log's own.
+fn make(modulus: Modulus, log: u32, levels: RetainedLevels) -> ApproxSignedBasisAnswer
+    ensures { λ r. ⌜ r ≡ made modulus log levels ⌝ }
+{
+    match DecompositionBaseLog::try_new(log) {
+        DecompositionBaseLogAnswer::Accepted(b) => ApproxSignedBasis::try_new(modulus, b, levels),
+        DecompositionBaseLogAnswer::Refused(n) => ApproxSignedBasisAnswer::Refused(n),
+    }
+}
+
+// q as it was given: 0 for native.
+fn modulus_number(modulus: Modulus) -> u32
+    ensures { λ r. ⌜ r ≡ numberOf modulus ⌝ }
+{
+    match modulus {
+        Modulus::Native => 0,
+        Modulus::Explicit(q) => q,
+    }
+}
+
+fn basis_reply(b: ApproxSignedBasis) -> Reply
+    ensures { λ r. ⌜ r ≡ basisReply b ⌝ }
+{
+    match b.threshold() {
+        WordAnswer::Word(threshold) => Reply::Basis(basis_line(b, threshold)),
+        WordAnswer::Refused(n) => Reply::Refused(n),
+    }
+}
+
+fn basis_line(b: ApproxSignedBasis, threshold: u32) -> BasisReply
+    ensures { λ r. ⌜ r ≡ basisLine b threshold ⌝ }
+{
+    let log = b.log_basis();
+    let levels = b.level_count();
+    BasisReply {
+        modulus: modulus_number(b.modulus()),
+        value_bits: b.value_bits(),
+        log_basis: log.get(),
+        level_count: levels.get(),
+        drop_bits: b.drop_bits(),
+        error_bound: b.approximate_error_bound(),
+        threshold,
+    }
+}
+
+// A refused basis keeps the earlier one.
+fn on_basis(session: Session, modulus: Modulus, log: u32, levels: RetainedLevels) -> Turn
+    ensures { λ r. ⌜ r ≡ basisTurn session modulus log levels ⌝ }
+{
+    match make(modulus, log, levels) {
+        ApproxSignedBasisAnswer::Accepted(b) => Turn {
+            reply: basis_reply(b),
+            session: Session::Ready(b),
+            more: true,
+        },
+        ApproxSignedBasisAnswer::Refused(n) => Turn {
+            reply: Reply::Refused(n),
+            session,
+            more: true,
+        },
+    }
+}
+
+fn word_reply(b: ApproxSignedBasis, word: u32) -> Reply
+    ensures { λ r. ⌜ r ≡ wordReply b word ⌝ }
+{
+    match b.reading(word) {
+        ReadingAnswer::Read(r) => Reply::Word(WordReply {
+            word,
+            reading: r.reading,
+            error: r.error,
+        }),
+        ReadingAnswer::Refused(n) => Reply::Refused(n),
+    }
+}
+
+// 18: a word before any accepted basis.
+fn on_word(session: Session, word: u32) -> Turn
+    ensures { λ r. ⌜ r ≡ wordTurn session word ⌝ }
+{
+    match session {
+        Session::Empty => Turn {
+            reply: Reply::Refused(18),
+            session: Session::Empty,
+            more: true,
+        },
+        Session::Ready(b) => Turn {
+            reply: word_reply(b, word),
+            session: Session::Ready(b),
+            more: true,
+        },
+    }
+}
+
+// 19, and the end.
+fn end(session: Session) -> Turn
+    ensures { λ r. ⌜ r ≡ over session ⌝ }
+{
+    Turn {
+        reply: Reply::Refused(19),
+        session,
+        more: false,
+    }
+}
+
+// 01: modulus, base log, levels.
+fn basis_command(session: Session, operands: &[u8]) -> Turn
+    ensures { λ r. ⌜ r ≡ basisCommand session (now (operands .entry)) ⌝ }
+{
+    if operands.len() < 6 {
+        return end(session);
+    }
+    let modulus = modulus_for(word_at(operands, 0));
+    let log = wide(operands[4]);
+    on_basis(session, modulus, log, levels_for(wide(operands[5])))
+}
+
+// 02: word.
+fn word_command(session: Session, operands: &[u8]) -> Turn
+    ensures { λ r. ⌜ r ≡ wordCommand session (now (operands .entry)) ⌝ }
+{
+    if operands.len() < 4 {
+        return end(session);
+    }
+    on_word(session, word_at(operands, 0))
+}
+
+// One command and the operands that were there. Unknown or cut off: 19.
+pub fn answer(session: Session, command: u8, operands: &[u8]) -> Turn
+    ensures { λ r. ⌜ r ≡ turnOf session command (now (operands .entry)) ⌝ }
+{
+    if command == 1 {
+        return basis_command(session, operands);
+    }
+    if command == 2 {
+        return word_command(session, operands);
+    }
+    end(session)
+}
