@@ -9,4 +9,5 @@ pub use command::Turn;
 pub use command::WordReply;
 pub use command::answer;
 pub use command::operand_count;
+pub use print::magnitude;
 pub use print::run;

@@ -17,7 +17,7 @@ fn print_number(fd: i32, n: u64) {
 }
 
 // |z|, of a negative z by way of z + 1, whose negative always fits.
-fn magnitude(z: i64) -> u64
+pub fn magnitude(z: i64) -> u64
     ensures { λ r. ⌜ r ≡ natAbs z ⌝ }
 {
     if z < 0 {
