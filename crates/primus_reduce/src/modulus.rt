@@ -58,8 +58,10 @@ fn is_power(q: u32) -> bool
 fn value_bits(q: u32) -> u32
     ensures { λ r. ⌜ r ≡ valueBits 32 q ⌝ }
 {
+    let zeros = u32::trailing_zeros(q);
+    let width = 32 - u32::leading_zeros(q);
     if is_power(q) {
-        return u32::trailing_zeros(q);
+        return zeros;
     }
-    32 - u32::leading_zeros(q)
+    width
 }

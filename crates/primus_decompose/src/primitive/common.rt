@@ -76,13 +76,14 @@ impl SignedDecomposer {
     {
         let log = self.log_basis;
         let v = with_carry(window(self.value, log), self.carry);
+        let negative = v + self.modulus_minus_basis as u64;
         if below_half(v, log) {
             return self.past(v, false);
         }
         if is_basis(v, log) {
             return self.past(0, true);
         }
-        self.past(v + self.modulus_minus_basis as u64, true)
+        self.past(negative, true)
     }
 
     // The step past this window, with its digit as a word.
