@@ -9,3 +9,6 @@ pub mod Modulus
 pub mod Checks
 pub mod Walk
 pub mod Cases
+pub mod InPlace
+pub mod Codec
+pub mod CodecCases
