@@ -114,10 +114,11 @@ pub record Coded (w t : ℕ) (m : Modulus) : Type 0 where
   pub least : 2 ≤ t
   pub below : t < size w m
 
+pub coded : (w t : ℕ) (m : Modulus) → t < 2 ^ w → plaintextFails t ≡ false → smallFails t m ≡ false → Coded w t m
+coded w t m h p s = record { least = plaintext-ok t p; below = small-ok w t m h s }
+
 pub accepted-codec : (w t : ℕ) (m : Modulus) → t < 2 ^ w → codecRefusal t m ≡ 0 → Coded w t m
-accepted-codec w t m h e =
-    let p = passed (codecRows t m) tt e in
-    record { least = plaintext-ok t (p .1 .0); below = small-ok w t m h (p .1 .1 .0) }
+accepted-codec w t m h e = let p = passed (codecRows t m) tt e in coded w t m h (p .1 .0) (p .1 .1 .0)
 
 -- ---- the basis
 pub record Sound (w : ℕ) (m : Modulus) (b L : ℕ) : Type 0 where
