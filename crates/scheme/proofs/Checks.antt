@@ -5,7 +5,7 @@
 -- Assumes nothing.
 use mathlib.Core.Path.{_≡_, refl, sym, ap, _∙_}
 use mathlib.Core.Bool.{Bool, true, false, not, _||_, _&&_}
-use mathlib.Core.List.{List, [], _∷_}
+use mathlib.Core.List.{List, [], _∷_, _++_}
 use Prim.Native.Nat.{ℕ, zero, suc, _+_, _*_, _/_, _^_, _≤_, _<_}
 use native.Mathlib.Nat.{le-div-iff-mul-le}
 use native.Mathlib.Decide.{decLe}
@@ -41,6 +41,17 @@ passed (c ∷ cs) t e = go (c .fails) refl (λ f. passed cs (and-yes (not (eqb (
         let z : c .number ≡ 0 = sym (ap (λ x. pick x (c .number) (firstOf cs)) h) ∙ e in
         absurd (eqb-no (and-yes (not (eqb (c .number) 0)) (numbered cs) t .0) z)
     go false h rest = (h, rest (sym (ap (λ x. pick x (c .number) (firstOf cs)) h) ∙ e))
+
+-- more rows do not change a number that applies
+pub first-kept : (cs ds : List Check) → (firstOf cs ≡ 0 → ⊥) → firstOf (cs ++ ds) ≡ firstOf cs
+unfolding firstOf
+first-kept [] ds h = absurd (h refl)
+first-kept (c ∷ cs) ds h = go (c .fails) h (first-kept cs ds)
+  where
+    go : (b : Bool) → (pick b (c .number) (firstOf cs) ≡ 0 → ⊥) → ((firstOf cs ≡ 0 → ⊥) → firstOf (cs ++ ds) ≡ firstOf cs)
+        → pick b (c .number) (firstOf (cs ++ ds)) ≡ pick b (c .number) (firstOf cs)
+    go true h rest = refl
+    go false h rest = rest h
 
 or-left : (a b : Bool) → (a || b) ≡ false → a ≡ false
 or-left true b e = e
