@@ -42,17 +42,6 @@ passed (c ∷ cs) t e = go (c .fails) refl (λ f. passed cs (and-yes (not (eqb (
         absurd (eqb-no (and-yes (not (eqb (c .number) 0)) (numbered cs) t .0) z)
     go false h rest = (h, rest (sym (ap (λ x. pick x (c .number) (firstOf cs)) h) ∙ e))
 
--- more rows do not change a number that applies
-pub first-kept : (cs ds : List Check) → (firstOf cs ≡ 0 → ⊥) → firstOf (cs ++ ds) ≡ firstOf cs
-unfolding firstOf
-first-kept [] ds h = absurd (h refl)
-first-kept (c ∷ cs) ds h = go (c .fails) h (first-kept cs ds)
-  where
-    go : (b : Bool) → (pick b (c .number) (firstOf cs) ≡ 0 → ⊥) → ((firstOf cs ≡ 0 → ⊥) → firstOf (cs ++ ds) ≡ firstOf cs)
-        → pick b (c .number) (firstOf (cs ++ ds)) ≡ pick b (c .number) (firstOf cs)
-    go true h rest = refl
-    go false h rest = rest h
-
 or-left : (a b : Bool) → (a || b) ≡ false → a ≡ false
 or-left true b e = e
 or-left false b e = refl
@@ -74,6 +63,17 @@ unfolding allOf
 all-at p d [] e i h = absurd (omega (arith, h))
 all-at p d (x ∷ xs) e zero h = and-left (p x) (allOf p xs) e
 all-at p d (x ∷ xs) e (suc i) h = all-at p d xs (and-right (p x) (allOf p xs) e) i (omega (arith, h))
+
+-- more rows do not change a number that applies
+pub first-kept : (cs ds : List Check) → (firstOf cs ≡ 0 → ⊥) → firstOf (cs ++ ds) ≡ firstOf cs
+unfolding firstOf
+first-kept [] ds h = absurd (h refl)
+first-kept (c ∷ cs) ds h = go (c .fails) h (first-kept cs ds)
+  where
+    go : (b : Bool) → (pick b (c .number) (firstOf cs) ≡ 0 → ⊥) → ((firstOf cs ≡ 0 → ⊥) → firstOf (cs ++ ds) ≡ firstOf cs)
+        → pick b (c .number) (firstOf (cs ++ ds)) ≡ pick b (c .number) (firstOf cs)
+    go true h rest = refl
+    go false h rest = rest h
 
 -- ---- what each check leaves, by its number
 
