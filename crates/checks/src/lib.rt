@@ -1,7 +1,7 @@
 // Checks that several calls share, each exact for every input, and the chain that keeps the first number.
 ghost use mathlib.Core.Path.{_≡_};
 ghost use Prim.Native.Nat.{_*_};
-ghost use Rattle.scheme.specs.Checks.{modulusFails, lengthFails, wordFails, wordsFail};
+ghost use Rattle.scheme.specs.Checks.{modulusFails, plaintextFails, smallFails, lengthFails, wordFails, wordsFail, messageFails, messagesFail};
 ghost use Rattle.primus_reduce.specs.Ring.{meant, sizeOf};
 ghost use Rattle.checks.specs.Refuse.{Next};
 use primus_reduce::Modulus;
@@ -25,6 +25,23 @@ pub fn modulus_refused(q: Modulus) -> bool
     match q {
         Modulus::Native => false,
         Modulus::Explicit(q) => q < 4,
+    }
+}
+
+// 7: the plaintext modulus t is below 2 or above 65,536.
+pub fn plaintext_refused(t: u32) -> bool
+    ensures { λ r. ⌜ r ≡ plaintextFails t ⌝ }
+{
+    t < 2 || 65536 < t
+}
+
+// 8: an explicit modulus is at most t.
+pub fn small_refused(t: u32, q: Modulus) -> bool
+    ensures { λ r. ⌜ r ≡ smallFails t (meant q) ⌝ }
+{
+    match q {
+        Modulus::Native => false,
+        Modulus::Explicit(q) => q <= t,
     }
 }
 
@@ -78,4 +95,18 @@ pub fn words_refused(q: Modulus, s: &[u32]) -> bool
         Modulus::Native => false,
         Modulus::Explicit(q) => any_refused(s, q),
     }
+}
+
+// 16, one message.
+pub fn message_refused(t: u32, m: u32) -> bool
+    ensures { λ r. ⌜ r ≡ messageFails t m ⌝ }
+{
+    t <= m
+}
+
+// 16, a run of messages: the scan for words, with t as the bound.
+pub fn messages_refused(t: u32, s: &[u32]) -> bool
+    ensures { λ r. ⌜ r ≡ messagesFail t (now (s .entry)) ⌝ }
+{
+    any_refused(s, t)
 }

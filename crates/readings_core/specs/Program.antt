@@ -7,9 +7,8 @@ use lib.ListN.{length, getD}
 use Rattle.scheme.specs.Numbers.{pick}
 use Rattle.scheme.specs.Modulus as S
 use Rattle.scheme.specs.Basis as B
-use Rattle.primus_reduce.specs.Ring.{meant}
+use Rattle.primus_reduce.specs.Ring.{meant, modulusFor, numberOf}
 use Rattle.primus_reduce.specs.declared.modulus.Modulus.{Modulus}
-use Rattle.primus_reduce.specs.declared.modulus.Modulus.the-variants.{Native, Explicit}
 use Rattle.primus_decompose.specs.Answers as A
 use Rattle.primus_decompose.specs.declared.error.ApproxSignedBasisAnswer.{ApproxSignedBasisAnswer}
 use Rattle.primus_decompose.specs.declared.error.ApproxSignedBasisAnswer.the-variants as Tried
@@ -36,14 +35,6 @@ operands c = pick (eqb c 1) 6 (pick (eqb c 2) 4 0)
 -- "operands are little-endian"
 unfoldable pub wordAt : List ℕ → ℕ → ℕ
 wordAt s i = getD s i 0 + 256 * getD s (i + 1) 0 + 65536 * getD s (i + 2) 0 + 16777216 * getD s (i + 3) 0
-
--- "modulus (4 bytes, 0 = native)", and back
-abbrev pub modulusFor : ℕ → Modulus
-modulusFor q = pick (eqb q 0) Native (Explicit q)
-
-abbrev pub numberOf : Modulus → ℕ
-numberOf Native = 0
-numberOf (Explicit q) = q
 
 -- "levels (1, 0 = left open)"
 abbrev pub levelsFor : ℕ → RetainedLevels

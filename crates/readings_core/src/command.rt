@@ -2,7 +2,7 @@
 ghost use mathlib.Core.Path.{_≡_};
 ghost use Prim.Native.Nat.{_+_, _*_, _<_, _≤_};
 ghost use lib.ListN.{length};
-ghost use Rattle.readings_core.specs.Program.{operands, wordAt, modulusFor, levelsFor, made, numberOf, basisLine, basisReply, basisTurn, wordReply, wordTurn, over, basisCommand, wordCommand, turnOf};
+ghost use Rattle.readings_core.specs.Program.{operands, wordAt, levelsFor, made, basisLine, basisReply, basisTurn, wordReply, wordTurn, over, basisCommand, wordCommand, turnOf};
 use primus_decompose::ApproxSignedBasis;
 use primus_decompose::ApproxSignedBasisAnswer;
 use primus_decompose::DecompositionBaseLog;
@@ -77,16 +77,6 @@ fn word_at(s: &[u8], i: usize) -> u32
     wide(s[i]) + 256 * wide(s[i + 1]) + 65536 * wide(s[i + 2]) + 16777216 * wide(s[i + 3])
 }
 
-// 0 is native.
-fn modulus_for(q: u32) -> Modulus
-    ensures { λ r. ⌜ r ≡ modulusFor q ⌝ }
-{
-    if q == 0 {
-        return Modulus::Native;
-    }
-    Modulus::Explicit(q)
-}
-
 // 0 is left open.
 fn levels_for(n: u32) -> RetainedLevels
     ensures { λ r. ⌜ r ≡ levelsFor n ⌝ }
@@ -107,16 +97,6 @@ fn make(modulus: Modulus, log: u32, levels: RetainedLevels) -> ApproxSignedBasis
     }
 }
 
-// q as it was given: 0 for native.
-fn modulus_number(modulus: Modulus) -> u32
-    ensures { λ r. ⌜ r ≡ numberOf modulus ⌝ }
-{
-    match modulus {
-        Modulus::Native => 0,
-        Modulus::Explicit(q) => q,
-    }
-}
-
 fn basis_reply(b: ApproxSignedBasis) -> Reply
     ensures { λ r. ⌜ r ≡ basisReply b ⌝ }
 {
@@ -131,8 +111,9 @@ fn basis_line(b: ApproxSignedBasis, threshold: u32) -> BasisReply
 {
     let log = b.log_basis();
     let levels = b.level_count();
+    let modulus = b.modulus();
     BasisReply {
-        modulus: modulus_number(b.modulus()),
+        modulus: modulus.number(),
         value_bits: b.value_bits(),
         log_basis: log.get(),
         level_count: levels.get(),
@@ -209,7 +190,7 @@ fn basis_command(session: Session, operands: &[u8]) -> Turn
     if operands.len() < 6 {
         return end(session);
     }
-    let modulus = modulus_for(word_at(operands, 0));
+    let modulus = Modulus::from_number(word_at(operands, 0));
     let log = wide(operands[4]);
     on_basis(session, modulus, log, levels_for(wide(operands[5])))
 }

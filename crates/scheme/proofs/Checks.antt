@@ -1,6 +1,7 @@
 -- What checks that have passed leave.
 --     passed            no number applies, so no condition holds
 --     accepted-basis    checks 1 to 5 have passed, so the basis is accepted
+--     accepted-codec    checks 2, 7 and 8 have passed, so 2 ≤ t < q
 -- Assumes nothing.
 use mathlib.Core.Path.{_≡_, refl, sym, ap, _∙_}
 use mathlib.Core.Bool.{Bool, true, false, not, _||_, _&&_}
@@ -17,7 +18,7 @@ use borrow.Author.Tests.{ltb-true, ltb-false, leb-false, eqb-true, not-false, le
 use Rattle.scheme.specs.Numbers.{pick}
 use Rattle.scheme.specs.Modulus.{Modulus, Native, Explicit, size, bits, Fits}
 use Rattle.scheme.specs.Basis.{Accepted, basisOf, fullCount}
-use Rattle.scheme.specs.Checks.{Check, firstOf, allOf, baseLogFails, modulusFails, baseFails, fullFails, levelsFail, basisRows, basisRefusal, lengthFails, wordFails, wordsFail}
+use Rattle.scheme.specs.Checks.{Check, firstOf, allOf, baseLogFails, modulusFails, baseFails, fullFails, levelsFail, basisRows, basisRefusal, plaintextFails, smallFails, codecRows, codecRefusal, lengthFails, wordFails, wordsFail, messageFails}
 use Rattle.scheme.proofs.Modulus.{bits-most, bits-cover, bits-tight}
 
 -- no check's number is 0
@@ -77,6 +78,17 @@ all-at p d [] e i h = absurd (omega (arith, h))
 all-at p d (x ∷ xs) e zero h = and-left (p x) (allOf p xs) e
 all-at p d (x ∷ xs) e (suc i) h = all-at p d xs (and-right (p x) (allOf p xs) e) i (omega (arith, h))
 
+-- more rows do not change a number that applies
+pub first-kept : (cs ds : List Check) → (firstOf cs ≡ 0 → ⊥) → firstOf (cs ++ ds) ≡ firstOf cs
+unfolding firstOf
+first-kept [] ds h = absurd (h refl)
+first-kept (c ∷ cs) ds h = go (c .fails) h (first-kept cs ds)
+  where
+    go : (b : Bool) → (pick b (c .number) (firstOf cs) ≡ 0 → ⊥) → ((firstOf cs ≡ 0 → ⊥) → firstOf (cs ++ ds) ≡ firstOf cs)
+        → pick b (c .number) (firstOf (cs ++ ds)) ≡ pick b (c .number) (firstOf cs)
+    go true h rest = refl
+    go false h rest = rest h
+
 -- ---- what each check leaves, by its number
 
 -- 1
@@ -97,6 +109,15 @@ base-ok w b (Explicit q) h e = ltb-false q (2 ^ b) e
 pub levels-ok : (k b L : ℕ) → levelsFail k b L ≡ false → (1 ≤ L) × (L ≤ fullCount k b)
 levels-ok k b L e = (ltb-false L 1 (or-left (ltb L 1) (ltb (k / b) L) e), ltb-false (k / b) L (or-right (ltb L 1) (ltb (k / b) L) e))
 
+-- 7; the upper limit of t is no part of what the codec needs
+pub plaintext-ok : (t : ℕ) → plaintextFails t ≡ false → 2 ≤ t
+plaintext-ok t e = ltb-false t 2 (or-left (ltb t 2) (ltb 65536 t) e)
+
+-- 8
+pub small-ok : (w t : ℕ) (m : Modulus) → t < 2 ^ w → smallFails t m ≡ false → t < size w m
+small-ok w t Native h e = h
+small-ok w t (Explicit q) h e = leb-false q t e
+
 -- 11
 pub length-ok : (x y : ℕ) → lengthFails x y ≡ false → x ≡ y
 length-ok x y e = eqb-true x y (not-false _ e)
@@ -108,6 +129,21 @@ word-ok q x f = leb-false q x f
 pub words-ok : (q : ℕ) (xs : List ℕ) → wordsFail q xs ≡ false → (i : ℕ) → i < length xs → getD xs i 0 < q
 unfolding wordsFail
 words-ok q xs f i h = ltb-true (getD xs i 0) q (all-at (λ x. ltb x q) 0 xs (not-false _ f) i h)
+
+-- 16; a run of messages is judged as words-ok says
+pub message-ok : (t m : ℕ) → messageFails t m ≡ false → m < t
+message-ok t m e = leb-false t m e
+
+-- ---- the codec
+pub record Coded (w t : ℕ) (m : Modulus) : Type 0 where
+  pub least : 2 ≤ t
+  pub below : t < size w m
+
+pub coded : (w t : ℕ) (m : Modulus) → t < 2 ^ w → plaintextFails t ≡ false → smallFails t m ≡ false → Coded w t m
+coded w t m h p s = record { least = plaintext-ok t p; below = small-ok w t m h s }
+
+pub accepted-codec : (w t : ℕ) (m : Modulus) → t < 2 ^ w → codecRefusal t m ≡ 0 → Coded w t m
+accepted-codec w t m h e = let p = passed (codecRows t m) tt e in coded w t m h (p .1 .0) (p .1 .1 .0)
 
 -- ---- the basis
 pub record Sound (w : ℕ) (m : Modulus) (b L : ℕ) : Type 0 where

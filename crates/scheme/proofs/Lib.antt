@@ -10,3 +10,6 @@ pub mod Checks
 pub mod Walk
 pub mod Stored
 pub mod Cases
+pub mod InPlace
+pub mod Codec
+pub mod CodecCases

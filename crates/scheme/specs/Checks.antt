@@ -62,6 +62,22 @@ basisRows w m b L =
 abbrev pub basisRefusal : ℕ → Modulus → ℕ → ℕ → ℕ
 basisRefusal w m b L = firstOf (basisRows w m b L)
 
+-- "7. The plaintext modulus t is below 2 or above 65,536."
+abbrev pub plaintextFails : ℕ → Bool
+plaintextFails t = ltb t 2 || ltb 65536 t
+
+-- "8. An explicit modulus is at most t."
+abbrev pub smallFails : ℕ → Modulus → Bool
+smallFails t Native = false
+smallFails t (Explicit q) = leb q t
+
+-- 2, 7 and 8, for every call that takes t
+abbrev pub codecRows : ℕ → Modulus → List Check
+codecRows t m = row (modulusFails m) 2 ∷ row (plaintextFails t) 7 ∷ row (smallFails t m) 8 ∷ []
+
+abbrev pub codecRefusal : ℕ → Modulus → ℕ
+codecRefusal t m = firstOf (codecRows t m)
+
 -- "11. An output has the wrong length."
 abbrev pub lengthFails : ℕ → ℕ → Bool
 lengthFails x y = not (eqb x y)
@@ -72,6 +88,13 @@ wordFails q x = leb q x
 
 unfoldable pub wordsFail : ℕ → List ℕ → Bool
 wordsFail q xs = not (allOf (λ x. ltb x q) xs)
+
+-- "16. A message is not below t."
+abbrev pub messageFails : ℕ → ℕ → Bool
+messageFails t m = leb t m
+
+abbrev pub messagesFail : ℕ → List ℕ → Bool
+messagesFail t xs = wordsFail t xs
 
 -- A call answers r, and a lent buffer that held `before` holds `after`: r is the first refusal, or 0, and the buffer holds
 -- the result, or where the call was refused what it held before.

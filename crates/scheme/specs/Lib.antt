@@ -5,4 +5,5 @@ pub mod Basis
 pub mod Reading
 pub mod Digits
 pub mod Walk
+pub mod Codec
 pub mod Checks

@@ -1,7 +1,8 @@
 use mathlib.Core.Path.{ap, ap₂, _∙_}
 use borrow.Author.Needs.{needs}
 use borrow.Author.Tests.{lt-leb, le-leb}
-use Rattle.readings_core.specs.Program.{modulusFor, levelsFor}
+use Rattle.readings_core.specs.Program.{levelsFor}
+use Rattle.primus_reduce.specs.Ring.{modulusFor}
 use Rattle.readings_core.proofs.Laws.{same-basis}
 use Rattle.readings_core.proofs.command.basis_command.Statement.{statement}
 use Rattle.readings_core.proofs.command.basis_command.Tie as tie
@@ -20,7 +21,7 @@ returns-2 c =
     let s = e .before .before in
     rw (le-leb 6 _ (e .if1 .left))
     (c .on-basis .ensures
-    ∙ same-basis (s .args .session) _ _ _ _ _ _ (m .modulus-for .ensures ∙ ap modulusFor (q .word-at .ensures)) (w4 .wide .ensures .0)
+    ∙ same-basis (s .args .session) _ _ _ _ _ _ (m .from-number .ensures ∙ ap modulusFor (q .word-at .ensures)) (w4 .wide .ensures .0)
     (l .levels-for .ensures ∙ ap levelsFor (w5 .wide2 .ensures .0)))
 
 pub basis-command-spec : {M : Type 1} → statement M

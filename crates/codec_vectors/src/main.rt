@@ -1,0 +1,136 @@
+// Compares the codec with data/codec.bin, which scripts/codec_vectors.py makes from document 01 and describes.
+mod bytes;
+mod slices;
+mod values;
+
+use libc::STDOUT_FILENO;
+
+// Records compared, those that differ, and the first of these, counted from 0.
+struct Score {
+    compared: u32,
+    wrong: u32,
+    first: u32,
+}
+
+struct Outcome {
+    more: bool,
+    right: bool,
+}
+
+fn value_turn(fd: i32) -> Outcome {
+    let mut r = [0u8; 37];
+    let n = io::read_full(fd, &mut r);
+    if n < 37 {
+        return Outcome {
+            more: true,
+            right: false,
+        };
+    }
+    Outcome {
+        more: true,
+        right: values::right(&r),
+    }
+}
+
+fn slice_turn(fd: i32) -> Outcome {
+    let mut r = [0u8; 86];
+    let n = io::read_full(fd, &mut r);
+    if n < 86 {
+        return Outcome {
+            more: true,
+            right: false,
+        };
+    }
+    Outcome {
+        more: true,
+        right: slices::right(&r),
+    }
+}
+
+// One record. A file that ends without its end record, or has another tag, counts as one more that differs.
+fn turn(fd: i32) -> Outcome {
+    let mut tag = [0u8; 1];
+    let n = io::read_full(fd, &mut tag);
+    if n < 1 {
+        return Outcome {
+            more: false,
+            right: false,
+        };
+    }
+    match tag[0] {
+        0 => Outcome {
+            more: false,
+            right: true,
+        },
+        1 => value_turn(fd),
+        2 => slice_turn(fd),
+        _ => Outcome {
+            more: false,
+            right: false,
+        },
+    }
+}
+
+fn next(s: Score, right: bool) -> Score {
+    let compared = s.compared;
+    let wrong = s.wrong;
+    if compared == u32::MAX {
+        return s;
+    }
+    if wrong == u32::MAX {
+        return s;
+    }
+    if right {
+        return Score {
+            compared: compared + 1,
+            wrong,
+            first: s.first,
+        };
+    }
+    Score {
+        compared: compared + 1,
+        wrong: wrong + 1,
+        first: if wrong == 0 { compared } else { s.first },
+    }
+}
+
+fn all(fd: i32) -> Score {
+    let mut s = Score {
+        compared: 0,
+        wrong: 0,
+        first: 0,
+    };
+    let mut turns = u64::MAX;
+    while turns > 0 {
+        let t = turn(fd);
+        if t.more || !t.right {
+            s = next(s, t.right);
+        }
+        if !t.more {
+            return s;
+        }
+        turns -= 1;
+    }
+    s
+}
+
+fn main() {
+    let path = b"codec.bin";
+    let fd = os::open_read(path);
+    if fd < 0 {
+        os::fail(path);
+        return;
+    }
+    let s = all(fd);
+    libc::close(fd);
+    io::write_all(STDOUT_FILENO, b"compared ");
+    io::print_decimal(STDOUT_FILENO, s.compared as u64);
+    io::write_all(STDOUT_FILENO, b"\nwrong ");
+    io::print_decimal(STDOUT_FILENO, s.wrong as u64);
+    io::write_all(STDOUT_FILENO, b"\n");
+    if s.wrong != 0 {
+        io::write_all(STDOUT_FILENO, b"first wrong ");
+        io::print_decimal(STDOUT_FILENO, s.first as u64);
+        io::write_all(STDOUT_FILENO, b"\n");
+    }
+}
