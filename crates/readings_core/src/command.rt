@@ -2,7 +2,7 @@
 ghost use mathlib.Core.Path.{_≡_};
 ghost use Prim.Native.Nat.{_+_, _*_, _<_, _≤_};
 ghost use lib.ListN.{length};
-ghost use Rattle.readings_core.specs.Program.{operands, wordAt, levelsFor, made, basisLine, basisReply, basisTurn, wordReply, wordTurn, over, basisCommand, wordCommand, turnOf};
+ghost use Rattle.readings_core.specs.Program.{operands, wordAt, levelsFor, made, basisLine, basisReply, go, basisTurn, wordReply, wordTurn, over, basisCommand, wordCommand, turnOf};
 use primus_decompose::ApproxSignedBasis;
 use primus_decompose::ApproxSignedBasisAnswer;
 use primus_decompose::DecompositionBaseLog;
@@ -123,21 +123,24 @@ fn basis_line(b: ApproxSignedBasis, threshold: u32) -> BasisReply
     }
 }
 
+// An answer after which the program goes on.
+fn next(reply: Reply, session: Session) -> Turn
+    ensures { λ r. ⌜ r ≡ go reply session ⌝ }
+{
+    Turn {
+        reply,
+        session,
+        more: true,
+    }
+}
+
 // A refused basis keeps the earlier one.
 fn on_basis(session: Session, modulus: Modulus, log: u32, levels: RetainedLevels) -> Turn
     ensures { λ r. ⌜ r ≡ basisTurn session modulus log levels ⌝ }
 {
     match make(modulus, log, levels) {
-        ApproxSignedBasisAnswer::Accepted(b) => Turn {
-            reply: basis_reply(b),
-            session: Session::Ready(b),
-            more: true,
-        },
-        ApproxSignedBasisAnswer::Refused(n) => Turn {
-            reply: Reply::Refused(n),
-            session,
-            more: true,
-        },
+        ApproxSignedBasisAnswer::Accepted(b) => next(basis_reply(b), Session::Ready(b)),
+        ApproxSignedBasisAnswer::Refused(n) => next(Reply::Refused(n), session),
     }
 }
 
@@ -159,16 +162,8 @@ fn on_word(session: Session, word: u32) -> Turn
     ensures { λ r. ⌜ r ≡ wordTurn session word ⌝ }
 {
     match session {
-        Session::Empty => Turn {
-            reply: Reply::Refused(18),
-            session: Session::Empty,
-            more: true,
-        },
-        Session::Ready(b) => Turn {
-            reply: word_reply(b, word),
-            session: Session::Ready(b),
-            more: true,
-        },
+        Session::Empty => next(Reply::Refused(18), Session::Empty),
+        Session::Ready(b) => next(word_reply(b, word), Session::Ready(b)),
     }
 }
 

@@ -1,14 +1,14 @@
-use mathlib.Core.Path.{ap, sym, _∙_}
+use mathlib.Core.Path.{_∙_}
 use borrow.Author.Needs.{needs}
 use Rattle.readings_core.proofs.Laws.{same-go}
 use Rattle.readings_core.proofs.command.on_word.Statement.{statement}
 use Rattle.readings_core.proofs.command.on_word.Tie as tie
 
 returns : tie.Need-returns
-returns c = rw (c .enum-told .given .1)
+returns c = rw (c .before .enum-told .given .1) (c .next .ensures)
 
 returns-2 : tie.Need-returns-2
-returns-2 c = rw (c .before .before .session .given .1) (same-go (c .word-reply .ensures))
+returns-2 c = let r = c .before in rw (r .before .before .session .given .1) (c .next2 .ensures ∙ same-go (r .word-reply .ensures))
 
 pub on-word-spec : {M : Type 1} → statement M
-on-word-spec = tie.close (tie.spec (λ c. search needs) (λ c. search needs) (λ c κs. tt) returns returns-2)
+on-word-spec = tie.close (tie.spec (λ c. search needs) (λ c κs. tt) (λ c. search needs) (λ c κs. tt) (λ c κs. tt) returns returns-2)
