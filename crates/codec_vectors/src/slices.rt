@@ -37,8 +37,8 @@ fn decode_call(codec: RoundedCodec, call: u32, lent: &[u32], buffer: &mut [u32])
 }
 
 fn call_of(codec: RoundedCodec, r: &[u8], lent: &[u32], buffer: &mut [u32]) -> u32 {
-    let call = bytes::byte(r, 9);
-    let e = embedding(bytes::byte(r, 10));
+    let call = little_endian::u8_at(r, 9);
+    let e = embedding(little_endian::u8_at(r, 10));
     if call < 4 {
         return encode_call(codec, call, e, lent, buffer);
     }
@@ -47,8 +47,8 @@ fn call_of(codec: RoundedCodec, r: &[u8], lent: &[u32], buffer: &mut [u32]) -> u
 
 // The call on the first words of what is lent and of the buffer, as many as the record says.
 fn answer(codec: RoundedCodec, r: &[u8], lent: &[u32], buffer: &mut [u32]) -> u32 {
-    let n = bytes::byte(r, 11) as usize;
-    let m = bytes::byte(r, 12) as usize;
+    let n = little_endian::u8_at(r, 11) as usize;
+    let m = little_endian::u8_at(r, 12) as usize;
     if lent.len() < n {
         return 99;
     }
@@ -67,10 +67,10 @@ fn same(a: [u32; 6], b: [u32; 6]) -> bool {
 pub(crate) fn right(r: &[u8]) -> bool {
     let lent = bytes::six(r, 14);
     let mut buffer = bytes::six(r, 38);
-    match RoundedCodec::try_new(bytes::word(r, 5), bytes::modulus(r)) {
+    match RoundedCodec::try_new(little_endian::u32_at(r, 5), bytes::modulus(r)) {
         RoundedCodecAnswer::Accepted(codec) => {
             let refusal = answer(codec, r, &lent, &mut buffer);
-            refusal == bytes::byte(r, 13) && same(buffer, bytes::six(r, 62))
+            refusal == little_endian::u8_at(r, 13) && same(buffer, bytes::six(r, 62))
         }
         RoundedCodecAnswer::Refused(_) => false,
     }

@@ -1,5 +1,4 @@
 // A basis record: try_new's answer, and what the basis then says of itself.
-use crate::bytes;
 use primus_decompose::ApproxSignedBasis;
 use primus_decompose::ApproxSignedBasisAnswer;
 use primus_decompose::DecompositionBaseLog;
@@ -21,21 +20,21 @@ pub struct Compared {
 }
 
 fn modulus_of(r: &[u8]) -> Modulus {
-    if bytes::u8_at(r, 0) == 0 {
+    if little_endian::u8_at(r, 0) == 0 {
         return Modulus::Native;
     }
-    Modulus::Explicit(bytes::u32_at(r, 1))
+    Modulus::Explicit(little_endian::u32_at(r, 1))
 }
 
 fn levels_of(r: &[u8]) -> RetainedLevels {
-    if bytes::u8_at(r, 9) == 0 {
+    if little_endian::u8_at(r, 9) == 0 {
         return RetainedLevels::Full;
     }
-    RetainedLevels::Count(DecompositionLevelCount::new(bytes::u64_at(r, 10) as usize))
+    RetainedLevels::Count(DecompositionLevelCount::new(little_endian::u64_at(r, 10) as usize))
 }
 
 fn try_new(r: &[u8]) -> ApproxSignedBasisAnswer {
-    match DecompositionBaseLog::try_new(bytes::u32_at(r, 5)) {
+    match DecompositionBaseLog::try_new(little_endian::u32_at(r, 5)) {
         DecompositionBaseLogAnswer::Accepted(b) => ApproxSignedBasis::try_new(
             modulus_of(r),
             b,
@@ -57,7 +56,7 @@ fn weights_are(w: &[u32; 16], r: &[u8]) -> bool {
     let mut j = 0;
     let mut at = 30;
     while j < 16 {
-        if w[j] != bytes::u32_at(r, at) {
+        if w[j] != little_endian::u32_at(r, at) {
             right = false;
         }
         j += 1;
@@ -70,24 +69,24 @@ fn weights_are(w: &[u32; 16], r: &[u8]) -> bool {
 fn says(b: ApproxSignedBasis, r: &[u8]) -> bool {
     let levels = b.level_count();
     let w = b.scalars();
-    let k = b.value_bits() as u64 == bytes::u8_at(r, 19);
-    let l = levels.get() as u64 == bytes::u8_at(r, 20);
-    let d = b.drop_bits() as u64 == bytes::u8_at(r, 21);
-    let h = b.approximate_error_bound() == bytes::u32_at(r, 22);
-    let t = threshold_is(b, bytes::u32_at(r, 26));
+    let k = b.value_bits() == little_endian::u8_at(r, 19);
+    let l = levels.get() == little_endian::u8_at(r, 20) as usize;
+    let d = b.drop_bits() == little_endian::u8_at(r, 21);
+    let h = b.approximate_error_bound() == little_endian::u32_at(r, 22);
+    let t = threshold_is(b, little_endian::u32_at(r, 26));
     k && l && d && h && t && weights_are(&w, r)
 }
 
 // A refused basis keeps the one that is held.
-pub fn compare(r: &[u8], held: Held) -> Compared {
-    let expected = bytes::u8_at(r, 18);
+pub(crate) fn compare(r: &[u8], held: Held) -> Compared {
+    let expected = little_endian::u8_at(r, 18);
     match try_new(r) {
         ApproxSignedBasisAnswer::Accepted(b) => Compared {
             right: expected == 0 && says(b, r),
             held: Held::Basis(b),
         },
         ApproxSignedBasisAnswer::Refused(n) => Compared {
-            right: expected == n as u64,
+            right: expected == n,
             held,
         },
     }

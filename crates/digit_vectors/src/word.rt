@@ -24,7 +24,7 @@ fn run_is(out: &[u32], first: usize, step: usize, count: usize, r: &[u8], at: us
     let mut j = 0;
     while j < count {
         if i < out.len() {
-            if out[i] != bytes::u32_at(r, p) {
+            if out[i] != little_endian::u32_at(r, p) {
                 right = false;
             }
         } else {
@@ -44,7 +44,7 @@ fn steps_are(start: SignedDecomposer, count: usize, r: &[u8], at: usize) -> bool
     let mut j = 0;
     while j < count {
         let s = d.step();
-        if s.digit != bytes::u32_at(r, p) {
+        if s.digit != little_endian::u32_at(r, p) {
             right = false;
         }
         d = s.next;
@@ -173,19 +173,25 @@ fn parts_are(b: ApproxSignedBasis, word: u32, refusal: u64, r: &[u8], at: usize)
     walk_is(b, word, n, refusal, r, at) && long && kept && one && three
 }
 
-pub fn compare(held: Held, r: &[u8]) -> bool {
-    let word = bytes::u32_at(r, 0);
-    let refusal = bytes::u8_at(r, 4);
+pub(crate) fn compare(held: Held, r: &[u8]) -> bool {
+    let word = little_endian::u32_at(r, 0);
+    let refusal = little_endian::u8_at(r, 4) as u64;
     match held {
         Held::Nothing => false,
-        Held::Basis(b) => reading_is(b, word, refusal, bytes::u64_at(r, 5), bytes::u64_at(r, 13))
+        Held::Basis(b) => reading_is(
+            b,
+            word,
+            refusal,
+            little_endian::u64_at(r, 5),
+            little_endian::u64_at(r, 13),
+        )
             && parts_are(b, word, refusal, r, 21),
     }
 }
 
 // The same for a short record, which is never refused.
-pub fn compare_short(held: Held, r: &[u8]) -> bool {
-    let word = bytes::u32_at(r, 0);
+pub(crate) fn compare_short(held: Held, r: &[u8]) -> bool {
+    let word = little_endian::u32_at(r, 0);
     match held {
         Held::Nothing => false,
         Held::Basis(b) => reading_is(

@@ -1,7 +1,7 @@
 -- Equal parts make equal answers.
 -- Assumes nothing.
 use mathlib.Core.Path.{_≡_, refl, ap, ap₂, _∙_}
-use Prim.Native.Nat.{ℕ, _+_, _*_}
+use Prim.Native.Nat.{ℕ}
 use lib.IntN.{ℤ}
 use Rattle.primus_reduce.specs.declared.modulus.Modulus.{Modulus}
 use Rattle.primus_decompose.specs.declared.parameters.RetainedLevels.{RetainedLevels}
@@ -17,9 +17,6 @@ same-go {s = s} e = ap (λ r. go r s) e
 
 pub same-basis : (s : Session) (m n : Modulus) (b c : ℕ) (l k : RetainedLevels) → m ≡ n → b ≡ c → l ≡ k → basisTurn s m b l ≡ basisTurn s n c k
 same-basis s m n b c l k em eb el = ap₂ (λ x y. basisTurn s x y l) em eb ∙ ap (basisTurn s n c) el
-
-pub four : (a b c d w x y z : ℕ) → a ≡ w → b ≡ x → c ≡ y → d ≡ z → a + 256 * b + 65536 * c + 16777216 * d ≡ w + 256 * x + 65536 * y + 16777216 * z
-four a b c d w x y z e f g h = rw (e, f, g, h) refl
 
 pub word-line : (a : ℕ) (x y : ℤ) (r : Reading) → x ≡ r .reading → y ≡ r .error
     → Word (record { word = a; reading = x; error = y }) ≡ wordFrom a (E.Read r)

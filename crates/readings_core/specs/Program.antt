@@ -1,12 +1,13 @@
 -- "The program `readings`": what a command answers, and what it leaves for the next.
 use mathlib.Core.Bool.{Bool, true, false}
 use mathlib.Core.List.{List}
-use Prim.Native.Nat.{ℕ, zero, suc, _+_, _*_}
+use Prim.Native.Nat.{ℕ}
 use lib.Dec.{leb, eqb}
 use lib.ListN.{length, getD}
 use Rattle.scheme.specs.Numbers.{pick}
 use Rattle.scheme.specs.Modulus as S
 use Rattle.scheme.specs.Basis as B
+use Rattle.little_endian.specs.Bytes.{word32}
 use Rattle.primus_reduce.specs.Ring.{meant, modulusFor, numberOf}
 use Rattle.primus_reduce.specs.declared.modulus.Modulus.{Modulus}
 use Rattle.primus_decompose.specs.Answers as A
@@ -31,10 +32,6 @@ use Rattle.readings_core.specs.declared.command.Turn.{Turn}
 -- "01: modulus (4 bytes), base log (1), levels (1). 02: word (4)."
 abbrev pub operands : ℕ → ℕ
 operands c = pick (eqb c 1) 6 (pick (eqb c 2) 4 0)
-
--- "operands are little-endian"
-unfoldable pub wordAt : List ℕ → ℕ → ℕ
-wordAt s i = getD s i 0 + 256 * getD s (i + 1) 0 + 65536 * getD s (i + 2) 0 + 16777216 * getD s (i + 3) 0
 
 -- "levels (1, 0 = left open)"
 abbrev pub levelsFor : ℕ → RetainedLevels
@@ -97,10 +94,10 @@ abbrev pub over : Session → Turn
 over s = record { reply = Refused 19; session = s; more = false }
 
 abbrev pub basisCommand : Session → List ℕ → Turn
-basisCommand s xs = pick (leb 6 (length xs)) (basisTurn s (modulusFor (wordAt xs 0)) (getD xs 4 0) (levelsFor (getD xs 5 0))) (over s)
+basisCommand s xs = pick (leb 6 (length xs)) (basisTurn s (modulusFor (word32 xs 0)) (getD xs 4 0) (levelsFor (getD xs 5 0))) (over s)
 
 abbrev pub wordCommand : Session → List ℕ → Turn
-wordCommand s xs = pick (leb 4 (length xs)) (wordTurn s (wordAt xs 0)) (over s)
+wordCommand s xs = pick (leb 4 (length xs)) (wordTurn s (word32 xs 0)) (over s)
 
 abbrev pub turnOf : Session → ℕ → List ℕ → Turn
 turnOf s c xs = pick (eqb c 1) (basisCommand s xs) (pick (eqb c 2) (wordCommand s xs) (over s))

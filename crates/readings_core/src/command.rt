@@ -1,8 +1,7 @@
 // One command: what it answers, and what it leaves for the next.
 ghost use mathlib.Core.Path.{_≡_};
-ghost use Prim.Native.Nat.{_+_, _*_, _<_, _≤_};
-ghost use lib.ListN.{length};
-ghost use Rattle.readings_core.specs.Program.{operands, wordAt, levelsFor, made, basisLine, basisReply, go, basisTurn, wordReply, wordTurn, over, basisCommand, wordCommand, turnOf};
+ghost use Prim.Native.Nat.{_≤_};
+ghost use Rattle.readings_core.specs.Program.{operands, levelsFor, made, basisLine, basisReply, go, basisTurn, wordReply, wordTurn, over, basisCommand, wordCommand, turnOf};
 use primus_decompose::ApproxSignedBasis;
 use primus_decompose::ApproxSignedBasisAnswer;
 use primus_decompose::DecompositionBaseLog;
@@ -61,20 +60,6 @@ pub fn operand_count(command: u8) -> usize
         return 4;
     }
     0
-}
-
-fn wide(b: u8) -> u32
-    ensures { λ r. ⌜ (r ≡ b) × (r < 256) ⌝ }
-{
-    b as u32
-}
-
-// Four bytes from place i on, little-endian.
-fn word_at(s: &[u8], i: usize) -> u32
-    requires { ⌜ i + 4 ≤ length (now s) ⌝ }
-    ensures { λ r. ⌜ r ≡ wordAt (now (s .entry)) i ⌝ }
-{
-    wide(s[i]) + 256 * wide(s[i + 1]) + 65536 * wide(s[i + 2]) + 16777216 * wide(s[i + 3])
 }
 
 // 0 is left open.
@@ -185,9 +170,14 @@ fn basis_command(session: Session, operands: &[u8]) -> Turn
     if operands.len() < 6 {
         return end(session);
     }
-    let modulus = Modulus::from_number(word_at(operands, 0));
-    let log = wide(operands[4]);
-    on_basis(session, modulus, log, levels_for(wide(operands[5])))
+    let modulus = Modulus::from_number(little_endian::u32_at(operands, 0));
+    let log = little_endian::u8_at(operands, 4);
+    on_basis(
+        session,
+        modulus,
+        log,
+        levels_for(little_endian::u8_at(operands, 5)),
+    )
 }
 
 // 02: word.
@@ -197,7 +187,7 @@ fn word_command(session: Session, operands: &[u8]) -> Turn
     if operands.len() < 4 {
         return end(session);
     }
-    on_word(session, word_at(operands, 0))
+    on_word(session, little_endian::u32_at(operands, 0))
 }
 
 // One command and the operands that were there. Unknown or cut off: 19.

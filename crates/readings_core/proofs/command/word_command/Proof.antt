@@ -1,5 +1,4 @@
 use mathlib.Core.Path.{ap, _∙_}
-use borrow.Author.Needs.{needs}
 use borrow.Author.Tests.{lt-leb, le-leb}
 use Rattle.readings_core.specs.Program.{wordTurn}
 use Rattle.readings_core.proofs.command.word_command.Statement.{statement}
@@ -12,7 +11,7 @@ returns-2 : tie.Need-returns-2
 returns-2 c =
     let w = c .before in
     let e = w .before in
-    rw (le-leb 4 _ (e .if1 .left)) (c .on-word .ensures ∙ ap (wordTurn (e .before .before .args .session)) (w .word-at .ensures))
+    rw (le-leb 4 _ (e .if1 .left)) (c .on-word .ensures ∙ ap (wordTurn (e .before .before .args .session)) (w .u32-at .ensures))
 
 pub word-command-spec : {M : Type 1} → statement M
-word-command-spec = tie.close (tie.spec (λ c κs. tt) returns (λ c κs. search needs) (λ c κs. tt) returns-2)
+word-command-spec = tie.close (tie.spec (λ c κs. tt) returns (λ c κs. tt) (λ c κs. tt) returns-2)
