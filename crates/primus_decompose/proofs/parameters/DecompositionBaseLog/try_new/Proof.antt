@@ -1,5 +1,5 @@
 use mathlib.Core.Path.{sym, _∙_}
-use Rattle.primus_decompose.proofs.Laws.{picked, passed-over}
+use Rattle.primus_decompose.proofs.Answers.{picked, passed-over}
 use Rattle.primus_decompose.proofs.parameters.DecompositionBaseLog.try_new.Statement.{statement}
 use Rattle.primus_decompose.proofs.parameters.DecompositionBaseLog.try_new.Tie as tie
 

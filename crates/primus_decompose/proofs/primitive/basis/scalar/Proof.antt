@@ -1,6 +1,6 @@
 use native.Mathlib.Omega.{arith}
 use borrow.Author.Needs.{needs}
-use Rattle.primus_decompose.proofs.Laws.{scalar-none, scalar-some, exponent-most}
+use Rattle.primus_decompose.proofs.Getters.{scalar-none, scalar-some, exponent-most}
 use Rattle.primus_decompose.proofs.primitive.basis.scalar.Statement.{statement}
 use Rattle.primus_decompose.proofs.primitive.basis.scalar.Tie as tie
 

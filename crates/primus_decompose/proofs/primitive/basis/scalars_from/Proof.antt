@@ -5,7 +5,7 @@ use lib.ListN.{length, getD, length-set}
 use borrow.Author.Needs.{needs}
 use Rattle.scheme.proofs.Lists.{is-tabulate}
 use Rattle.primus_decompose.specs.Answers.{scalarAt}
-use Rattle.primus_decompose.proofs.Laws.{store-next}
+use Rattle.primus_decompose.proofs.Getters.{store-next}
 use Rattle.primus_decompose.proofs.primitive.basis.scalars_from.Statement.{statement}
 use Rattle.primus_decompose.proofs.primitive.basis.scalars_from.Tie as tie
 

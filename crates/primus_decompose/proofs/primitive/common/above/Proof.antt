@@ -1,5 +1,5 @@
 use borrow.Author.Needs.{needs}
-use Rattle.primus_decompose.proofs.Laws.{above-none}
+use Rattle.primus_decompose.proofs.Windows.{above-none}
 use Rattle.primus_decompose.proofs.primitive.common.above.Statement.{statement}
 use Rattle.primus_decompose.proofs.primitive.common.above.Tie as tie
 

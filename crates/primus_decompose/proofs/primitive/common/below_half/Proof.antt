@@ -1,5 +1,5 @@
 use borrow.Author.Needs.{needs}
-use Rattle.primus_decompose.proofs.Laws.{half-test, half-none}
+use Rattle.primus_decompose.proofs.Windows.{half-test, half-none}
 use Rattle.primus_decompose.proofs.primitive.common.below_half.Statement.{statement}
 use Rattle.primus_decompose.proofs.primitive.common.below_half.Tie as tie
 

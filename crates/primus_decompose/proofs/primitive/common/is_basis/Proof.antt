@@ -1,5 +1,5 @@
 use borrow.Author.Needs.{needs}
-use Rattle.primus_decompose.proofs.Laws.{basis-test, basis-none}
+use Rattle.primus_decompose.proofs.Windows.{basis-test, basis-none}
 use Rattle.primus_decompose.proofs.primitive.common.is_basis.Statement.{statement}
 use Rattle.primus_decompose.proofs.primitive.common.is_basis.Tie as tie
 

@@ -1,6 +1,6 @@
 use native.Mathlib.Omega.{arith}
 use borrow.Author.Needs.{needs}
-use Rattle.primus_decompose.proofs.Laws.{mask-positive, window-mask, window-all}
+use Rattle.primus_decompose.proofs.Windows.{mask-positive, window-mask, window-all}
 use Rattle.primus_decompose.proofs.primitive.common.window.Statement.{statement}
 use Rattle.primus_decompose.proofs.primitive.common.window.Tie as tie
 

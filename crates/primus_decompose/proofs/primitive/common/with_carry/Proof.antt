@@ -1,5 +1,5 @@
 use borrow.Author.Needs.{needs}
-use Rattle.primus_decompose.proofs.Laws.{with-carry, without-carry}
+use Rattle.primus_decompose.proofs.Windows.{with-carry, without-carry}
 use Rattle.primus_decompose.proofs.primitive.common.with_carry.Statement.{statement}
 use Rattle.primus_decompose.proofs.primitive.common.with_carry.Tie as tie
 

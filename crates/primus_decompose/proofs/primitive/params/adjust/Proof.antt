@@ -1,5 +1,5 @@
 use borrow.Author.Needs.{needs}
-use Rattle.primus_decompose.proofs.Laws.{adjust-below, adjust-above}
+use Rattle.primus_decompose.proofs.Constants.{adjust-below, adjust-above}
 use Rattle.primus_decompose.proofs.primitive.params.adjust.Statement.{statement}
 use Rattle.primus_decompose.proofs.primitive.params.adjust.Tie as tie
 

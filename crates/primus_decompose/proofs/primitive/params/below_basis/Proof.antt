@@ -1,5 +1,5 @@
 use borrow.Author.Needs.{needs}
-use Rattle.primus_decompose.proofs.Laws.{base-test, base-over}
+use Rattle.primus_decompose.proofs.Answers.{base-test, base-over}
 use Rattle.primus_decompose.proofs.primitive.params.below_basis.Statement.{statement}
 use Rattle.primus_decompose.proofs.primitive.params.below_basis.Tie as tie
 

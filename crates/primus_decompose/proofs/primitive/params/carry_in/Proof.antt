@@ -1,5 +1,5 @@
 use borrow.Author.Needs.{needs}
-use Rattle.primus_decompose.proofs.Laws.{carry-none, carry-some}
+use Rattle.primus_decompose.proofs.Constants.{carry-none, carry-some}
 use Rattle.primus_decompose.proofs.primitive.params.carry_in.Statement.{statement}
 use Rattle.primus_decompose.proofs.primitive.params.carry_in.Tie as tie
 

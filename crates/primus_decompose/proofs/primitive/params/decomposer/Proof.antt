@@ -1,6 +1,6 @@
 use native.Mathlib.Omega.{arith}
 use borrow.Author.Needs.{needs}
-use Rattle.primus_decompose.proofs.Laws.{dropped-most, decomposer-is}
+use Rattle.primus_decompose.proofs.Constants.{dropped-most, decomposer-is}
 use Rattle.primus_decompose.proofs.primitive.params.decomposer.Statement.{statement}
 use Rattle.primus_decompose.proofs.primitive.params.decomposer.Tie as tie
 

@@ -4,7 +4,7 @@ use mathlib.Core.Path.{_∙_}
 use native.Mathlib.Nat.{div-le-self}
 use mathlib.Core.Path.{ap}
 use Prim.Native.Nat.{ℕ, _<_, _≤_, _/_}
-use Rattle.primus_decompose.proofs.Laws.{drop-none, drop-over, drop-room}
+use Rattle.primus_decompose.proofs.Getters.{drop-none, drop-over, drop-room}
 use Rattle.primus_decompose.proofs.primitive.params.drop_bits.Statement.{statement}
 use Rattle.primus_decompose.proofs.primitive.params.drop_bits.Tie as tie
 

@@ -1,5 +1,5 @@
 use borrow.Author.Needs.{needs}
-use Rattle.primus_decompose.proofs.Laws.{bound-none, bound-some}
+use Rattle.primus_decompose.proofs.Constants.{bound-none, bound-some}
 use Rattle.primus_decompose.proofs.primitive.params.error_bound.Statement.{statement}
 use Rattle.primus_decompose.proofs.primitive.params.error_bound.Tie as tie
 

@@ -1,7 +1,7 @@
 use native.Mathlib.Omega.{arith}
 use borrow.Author.Needs.{needs}
 use native.Mathlib.Nat.{div-le-self}
-use Rattle.primus_decompose.proofs.Laws.{full-none}
+use Rattle.primus_decompose.proofs.Answers.{full-none}
 use Rattle.primus_decompose.proofs.primitive.params.full_count.Statement.{statement}
 use Rattle.primus_decompose.proofs.primitive.params.full_count.Tie as tie
 

@@ -1,6 +1,6 @@
 use native.Mathlib.Omega.{arith}
 use borrow.Author.Needs.{needs}
-use Rattle.primus_decompose.proofs.Laws.{adjust-fits, dropped-most, init-is}
+use Rattle.primus_decompose.proofs.Constants.{adjust-fits, dropped-most, init-is}
 use Rattle.primus_decompose.proofs.primitive.params.init.Statement.{statement}
 use Rattle.primus_decompose.proofs.primitive.params.init.Tie as tie
 

@@ -1,5 +1,5 @@
 use borrow.Author.Needs.{needs}
-use Rattle.primus_decompose.proofs.Laws.{power-is}
+use Rattle.primus_decompose.proofs.Constants.{power-is}
 use Rattle.primus_decompose.proofs.primitive.params.power.Statement.{statement}
 use Rattle.primus_decompose.proofs.primitive.params.power.Tie as tie
 

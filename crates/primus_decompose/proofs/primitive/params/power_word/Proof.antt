@@ -1,5 +1,5 @@
 use borrow.Author.Needs.{needs}
-use Rattle.primus_decompose.proofs.Laws.{power-over, power-under}
+use Rattle.primus_decompose.proofs.Getters.{power-over, power-under}
 use Rattle.primus_decompose.proofs.primitive.params.power_word.Statement.{statement}
 use Rattle.primus_decompose.proofs.primitive.params.power_word.Tie as tie
 

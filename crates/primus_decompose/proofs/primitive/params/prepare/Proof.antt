@@ -3,7 +3,7 @@ use native.Mathlib.Omega.{arith}
 use borrow.Author.Needs.{needs}
 use Rattle.primus_reduce.specs.Ring.{meant}
 use Rattle.scheme.proofs.Checks.{Sound, accepted-basis}
-use Rattle.primus_decompose.proofs.Laws.{levels-most, room-of, product-fits, sized-of, covered-of, base-of, add-fits, offset-fits, ready-of}
+use Rattle.primus_decompose.proofs.Constants.{levels-most, room-of, product-fits, sized-of, covered-of, base-of, add-fits, offset-fits, ready-of}
 use Rattle.primus_decompose.proofs.primitive.params.prepare.Statement.{statement}
 use Rattle.primus_decompose.proofs.primitive.params.prepare.Tie as tie
 

@@ -4,7 +4,7 @@ use Rattle.scheme.specs.Basis.{boundOf}
 use native.Mathlib.Nat.{lt-of-lt-of-le}
 use lib.Dec.{lit≤}
 use borrow.Author.Needs.{needs}
-use Rattle.primus_decompose.proofs.Laws.{Steps, threshold-steps}
+use Rattle.primus_decompose.proofs.Constants.{Steps, threshold-steps}
 use Rattle.primus_decompose.proofs.primitive.params.wrap_threshold.Statement.{statement}
 use Rattle.primus_decompose.proofs.primitive.params.wrap_threshold.Tie as tie
 

@@ -1,5 +1,5 @@
 use borrow.Author.Needs.{needs}
-use Rattle.primus_decompose.proofs.Laws.{adjust-below}
+use Rattle.primus_decompose.proofs.Constants.{adjust-below}
 use borrow.Author.Tests.{lt-ltb, le-ltb}
 use Rattle.primus_decompose.proofs.primitive.reading.lifted_by.Statement.{statement}
 use Rattle.primus_decompose.proofs.primitive.reading.lifted_by.Tie as tie

@@ -7,7 +7,7 @@ use lib.Pow.{pow-pos, pow-lt}
 use borrow.Author.Needs.{needs}
 use Rattle.scheme.proofs.Modulus.{size-most}
 use Rattle.primus_reduce.specs.Ring.{meant}
-use Rattle.primus_decompose.proofs.Laws.{dropped-most}
+use Rattle.primus_decompose.proofs.Constants.{dropped-most}
 use Rattle.primus_decompose.proofs.Signs.{read-is, lost-most}
 use Rattle.primus_decompose.proofs.primitive.reading.read.Statement.{statement}
 use Rattle.primus_decompose.proofs.primitive.reading.read.Tie as tie

@@ -9,7 +9,7 @@ use native.Mathlib.Omega.{arith}
 use borrow.Author.Needs.{needs}
 use Rattle.scheme.specs.Digits.{digitsOf}
 use Rattle.checks.proofs.Table.{refused, done}
-use Rattle.primus_decompose.proofs.Laws.{digits-passed}
+use Rattle.primus_decompose.proofs.Answers.{digits-passed}
 use Rattle.primus_decompose.proofs.Columns.{one-column}
 use Rattle.primus_decompose.proofs.primitive.basis.ApproxSignedBasis.decompose.Statement.{statement}
 use Rattle.primus_decompose.proofs.primitive.basis.ApproxSignedBasis.decompose.Tie as tie

@@ -7,7 +7,7 @@ use Rattle.scheme.specs.Digits.{runsOf}
 use Rattle.primus_reduce.specs.Ring.{sizeOf}
 use Rattle.checks.proofs.Table.{refused, done}
 use Rattle.primus_decompose.specs.Answers.{rows}
-use Rattle.primus_decompose.proofs.Laws.{slice-passed}
+use Rattle.primus_decompose.proofs.Answers.{slice-passed}
 use Rattle.primus_decompose.proofs.primitive.basis.ApproxSignedBasis.decompose_slice_to.Statement.{statement}
 use Rattle.primus_decompose.proofs.primitive.basis.ApproxSignedBasis.decompose_slice_to.Tie as tie
 

@@ -2,7 +2,7 @@ use mathlib.Core.Path.{ap, sym, _∙_}
 use borrow.Author.Needs.{needs}
 use Rattle.primus_decompose.specs.declared.error.ReadingAnswer.the-variants.{Read}
 use Rattle.primus_decompose.specs.Answers.{readingOf}
-use Rattle.primus_decompose.proofs.Laws.{word-passed, answer-refused, answered}
+use Rattle.primus_decompose.proofs.Answers.{word-passed, answer-refused, answered}
 use Rattle.primus_decompose.proofs.primitive.basis.ApproxSignedBasis.reading.Statement.{statement}
 use Rattle.primus_decompose.proofs.primitive.basis.ApproxSignedBasis.reading.Tie as tie
 

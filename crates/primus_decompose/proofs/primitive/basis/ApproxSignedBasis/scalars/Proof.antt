@@ -2,7 +2,7 @@ use mathlib.Core.Path.{ap, ap₂, _∙_}
 use Rattle.scheme.specs.Numbers.{tabulate}
 use Rattle.primus_decompose.specs.Answers.{scalarAt}
 use borrow.Author.Needs.{needs}
-use Rattle.primus_decompose.proofs.Laws.{weights-are}
+use Rattle.primus_decompose.proofs.Getters.{weights-are}
 use Rattle.primus_decompose.proofs.primitive.basis.ApproxSignedBasis.scalars.Statement.{statement}
 use Rattle.primus_decompose.proofs.primitive.basis.ApproxSignedBasis.scalars.Tie as tie
 

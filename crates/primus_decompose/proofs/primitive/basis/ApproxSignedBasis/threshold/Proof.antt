@@ -2,7 +2,7 @@ use mathlib.Core.Path.{ap, sym, _∙_}
 use borrow.Author.Needs.{needs}
 use Rattle.scheme.specs.Reading as R
 use Rattle.primus_decompose.specs.declared.error.WordAnswer.the-variants.{Word}
-use Rattle.primus_decompose.proofs.Laws.{answer-refused, answered}
+use Rattle.primus_decompose.proofs.Answers.{answer-refused, answered}
 use Rattle.primus_decompose.proofs.primitive.basis.ApproxSignedBasis.threshold.Statement.{statement}
 use Rattle.primus_decompose.proofs.primitive.basis.ApproxSignedBasis.threshold.Tie as tie
 

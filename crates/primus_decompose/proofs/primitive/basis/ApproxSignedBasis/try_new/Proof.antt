@@ -1,5 +1,5 @@
 use borrow.Author.Needs.{needs}
-use Rattle.primus_decompose.proofs.Laws.{tried-refused, tried-given}
+use Rattle.primus_decompose.proofs.Answers.{tried-refused, tried-given}
 use Rattle.primus_decompose.proofs.primitive.basis.ApproxSignedBasis.try_new.Statement.{statement}
 use Rattle.primus_decompose.proofs.primitive.basis.ApproxSignedBasis.try_new.Tie as tie
 

@@ -1,6 +1,6 @@
 use mathlib.Core.Path.{_≡_, ap, sym, _∙_}
 use borrow.Author.Needs.{needs}
-use Rattle.primus_decompose.proofs.Laws.{step-small, step-top, step-large}
+use Rattle.primus_decompose.proofs.Windows.{step-small, step-top, step-large}
 use Rattle.primus_decompose.proofs.primitive.common.SignedDecomposer.step.Statement.{statement}
 use Rattle.primus_decompose.proofs.primitive.common.SignedDecomposer.step.Tie as tie
 
