@@ -1,6 +1,6 @@
 -- Encryption: secret key, packed and public key; phases. Words are numbers below q; a ciphertext is n mask words and the body.
-use mathlib.Core.List.{List, [], _∷_, _++_}
-use Prim.Native.Nat.{ℕ, zero, suc, _+_, _*_, _-_}
+use mathlib.Core.List.{List, [], _∷_, _++_, zipWith}
+use Prim.Native.Nat.{ℕ, zero, suc, _+_, _*_, _-_, _%_}
 use lib.Dec.{eqb}
 use lib.IntN.{ℤ, pos, _+ℤ_, _-ℤ_, _*ℤ_}
 use lib.ListN.{length, getD, take, drop}
@@ -28,6 +28,10 @@ encrypted q n a s e p = a ++ (bodyOf q n a s e p ∷ [])
 -- "Phase = b − ⟨a, s⟩", of the ciphertext x
 unfoldable pub phaseOf : ℕ → ℕ → List ℕ → (ℕ → ℤ) → ℕ
 phaseOf q n x s = residue (pos (getD x n 0) -ℤ inner n x s) q
+
+-- "Adding two ciphertexts adds their words modulo q"
+abbrev pub addWords : ℕ → List ℕ → List ℕ → List ℕ
+addWords q xs ys = zipWith (λ x y. (x + y) % q) xs ys
 
 -- "body i uses Σ over j < n−i of a_j·s_(j+i), minus Σ over j ≥ n−i of a_j·s_(j−n+i)"
 unfoldable pub rotated : ℕ → List ℕ → (ℕ → ℤ) → ℕ → ℤ
