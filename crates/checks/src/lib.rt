@@ -1,11 +1,11 @@
 // Checks that several calls share, each exact for every input, and the chain that keeps the first number.
 ghost use mathlib.Core.Path.{_≡_};
 ghost use Prim.Native.Nat.{_+_, _*_};
-ghost use lib.IntN.{natAbs};
 ghost use Rattle.scheme.specs.Checks.{modulusFails, plaintextFails, smallFails, lengthFails, boundFails, wordFails, wordsFail, magnitudesFail, signedFail, errorsFail, coefficientsFail, messageFails, messagesFail};
 ghost use Rattle.primus_reduce.specs.Ring.{meant, sizeOf};
 ghost use Rattle.checks.specs.Refuse.{Next};
 use primus_reduce::Modulus;
+use primus_reduce::magnitude;
 
 // The refusal r so far, or `number` where there is none yet and this check fails.
 pub fn refuse(r: u32, fails: bool, number: u32) -> u32
@@ -116,17 +116,6 @@ pub fn words_refused(q: Modulus, s: &[u32]) -> bool
     }
 }
 
-// |c|; that of −2^31 is no i32.
-fn magnitude(c: i32) -> u64
-    ensures { λ r. ⌜ r ≡ natAbs c ⌝ }
-{
-    let wide = c as i64;
-    if wide < 0 {
-        return (0 - wide) as u64;
-    }
-    wide as u64
-}
-
 // Whether some |c| is not below the limit; no early exit, as for words.
 fn any_outside(s: &[i32], limit: u64) -> bool
     ensures { λ r. ⌜ r ≡ magnitudesFail limit (now (s .entry)) ⌝ }
@@ -135,7 +124,7 @@ fn any_outside(s: &[i32], limit: u64) -> bool
     let mut i = 0;
     while i < s.len() {
         let c = s[i];
-        if limit <= magnitude(c) {
+        if limit <= magnitude(c) as u64 {
             any = true;
         }
         i += 1;
