@@ -1,0 +1,118 @@
+-- Laws of the leaves, and what the checks of a call leave.
+-- Assumes nothing.
+use mathlib.Core.Path.{_≡_, refl, sym, ap, ap₂, _∙_}
+use mathlib.Core.Bool.{Bool, false}
+use mathlib.Core.List.{List, [], _∷_, _++_}
+use Prim.Native.Nat.{ℕ, zero, suc, _+_, _*_, _≤_, _<_}
+use native.Mathlib.Numerals.{add-one}
+use native.Mathlib.Omega.{arith}
+use lib.Dec.{eqb}
+use lib.IntN.{ℤ, pos, _+ℤ_, _-ℤ_, _*ℤ_, +ℤ-idr, *ℤ-zero}
+use lib.ListN.{length, getD, length-append, List·getD-append, List·getD-eq-default}
+use lib.Seq.{getD-at}
+use borrow.Author.Tests.{ne-eqb}
+use Rattle.scheme.specs.Numbers.{pick, residue, Cong, sumTo}
+use Rattle.scheme.specs.Lwe.{words, signed, inner, bodyOf, encrypted, phaseOf}
+use Rattle.scheme.proofs.Residue.{cong-refl, cong-add, residue-cong}
+use Rattle.scheme.proofs.Lwe.{cong-sub, stands}
+use Rattle.scheme.proofs.Checks.{passed, modulus-ok, length-ok}
+use Rattle.primus_reduce.specs.Ring.{meant, sizeOf, modulo}
+use Rattle.primus_reduce.specs.Dot.{dot, dotSigned}
+use Rattle.primus_reduce.specs.declared.modulus.Modulus.{Modulus}
+use Rattle.primus_lwe.specs.Answers.{encryptRows, encryptRefusal, phaseRows, phaseRefusal}
+
+-- the word that a reduction gives stands for its number
+pub modulo-stands : {q w : ℕ} → 0 < q → (z : ℤ) → w ≡ modulo q z → Cong q (pos w) z
+modulo-stands {q} {w} h z e = rw (e ∙ plain) (stands h z)
+  where
+    plain : modulo q z ≡ residue z q
+    plain = rw (ne-eqb q 0 (λ f. omega arith))
+
+-- ---- inner products
+
+module _ (n : ℕ) (x : List ℕ) where
+  pub dot-mask : (s : List ℕ) → length x ≡ n → dot x s ≡ inner n x (words s)
+  unfolding dot inner
+  dot-mask s e = ap (λ m. sumTo m (λ i. pos (getD x i 0) *ℤ pos (getD s i 0))) e
+
+  pub dot-mask-signed : (s : List ℤ) → length x ≡ n → dotSigned x s ≡ inner n x (signed s)
+  unfolding dotSigned inner
+  dot-mask-signed s e = ap (λ m. sumTo m (λ i. pos (getD x i 0) *ℤ getD s i (pos 0))) e
+
+  -- a key has no number for the body
+  last-none : (s : ℕ → ℤ) → s n ≡ pos 0 → sumTo (n + 1) (λ i. pos (getD x i 0) *ℤ s i) ≡ sumTo n (λ i. pos (getD x i 0) *ℤ s i)
+  unfolding sumTo
+  last-none s e =
+      ap (λ m. sumTo m (λ i. pos (getD x i 0) *ℤ s i)) (add-one n)
+      ∙ ap (λ z. sumTo n (λ i. pos (getD x i 0) *ℤ s i) +ℤ z) (ap (λ z. pos (getD x n 0) *ℤ z) e ∙ *ℤ-zero (pos (getD x n 0)))
+      ∙ +ℤ-idr (sumTo n (λ i. pos (getD x i 0) *ℤ s i))
+
+  pub dot-body : (s : List ℕ) → length x ≡ n + 1 → length s ≡ n → dot x s ≡ inner n x (words s)
+  unfolding dot inner
+  dot-body s e k =
+      ap (λ m. sumTo m (λ i. pos (getD x i 0) *ℤ pos (getD s i 0))) e ∙ last-none (λ i. pos (getD s i 0)) (ap pos (List·getD-eq-default s 0 {n = n} (omega arith)))
+
+  pub dot-body-signed : (s : List ℤ) → length x ≡ n + 1 → length s ≡ n → dotSigned x s ≡ inner n x (signed s)
+  unfolding dotSigned inner
+  dot-body-signed s e k =
+      ap (λ m. sumTo m (λ i. pos (getD x i 0) *ℤ getD s i (pos 0))) e ∙ last-none (λ i. getD s i (pos 0)) (List·getD-eq-default s (pos 0) {n = n} (omega arith))
+
+-- ---- encryption and phase by the words that stand for ⟨a, s⟩ and e
+
+module _ (q n : ℕ) (h : 0 < q) (x : List ℕ) (s : ℕ → ℤ) (sum : ℕ) (I : ℤ) (ei : I ≡ inner n x s) (es : sum ≡ modulo q I) where
+  sum-stands : Cong q (pos sum) (inner n x s)
+  sum-stands = rw (← ei) (modulo-stands h I es)
+
+  pub encrypted-is : (e : ℤ) (w p : ℕ) → w ≡ modulo q e → x ++ (residue (pos sum +ℤ pos w +ℤ pos p) q ∷ []) ≡ encrypted q n x s e (pos p)
+  unfolding encrypted bodyOf
+  encrypted-is e w p f =
+      ap (λ b. x ++ (b ∷ [])) (residue-cong h (cong-add (cong-add sum-stands (modulo-stands h e f)) (cong-refl q (pos p))))
+
+  pub phase-is : {r : ℕ} → r ≡ modulo q (pos (getD x n 0) -ℤ pos sum) → r ≡ phaseOf q n x s
+  unfolding phaseOf
+  phase-is e = e ∙ rw (ne-eqb q 0 (λ f. omega arith)) (residue-cong h (cong-sub (cong-refl q (pos (getD x n 0))) sum-stands))
+
+-- two sums of words are one
+pub body-is : (q sum e p r b : ℕ) → 0 < q → r ≡ modulo q (pos sum +ℤ pos e) → b ≡ modulo q (pos r +ℤ pos p) → b ≡ residue (pos sum +ℤ pos e +ℤ pos p) q
+body-is q sum e p r b h f g = g ∙ rw (ne-eqb q 0 (λ z. omega arith)) (residue-cong h (cong-add (modulo-stands h (pos sum +ℤ pos e) f) (cong-refl q (pos p))))
+
+-- the mask and the body, word by word
+module _ (a : List ℕ) (b : ℕ) where
+  pub made-length : length (a ++ (b ∷ [])) ≡ length a + 1
+  made-length = length-append a (b ∷ [])
+
+  pub made-mask : (i : ℕ) → i < length a → getD a i 0 ≡ getD (a ++ (b ∷ [])) i 0
+  made-mask i h = sym (List·getD-append a (b ∷ []) 0 i h)
+
+  pub made-body : (i : ℕ) → i ≡ length a → b ≡ getD (a ++ (b ∷ [])) i 0
+  made-body i e = sym (getD-at a b [] 0 i (sym e))
+
+-- ---- what the checks leave
+
+pub record Encryptable (m : Modulus) (n len : ℕ) (a : List ℕ) (es : List ℤ) (room : ℕ) : Type 0 where
+  pub positive : 0 < sizeOf m
+  pub key : len ≡ n
+  pub mask : length a ≡ n
+  pub fits : room ≡ length a + 1
+  pub one : 0 < length es
+
+pub encryptable : (m : Modulus) (n len : ℕ) (bad : Bool) (a : List ℕ) (es : List ℤ) (E p room : ℕ) → encryptRefusal m n len bad a es E p room ≡ 0
+    → Encryptable m n len a es room
+unfolding encryptRefusal
+encryptable m n len bad a es E p room e =
+    let (two, (six, (nine, (eleven, (masks, (errors, rest)))))) = passed (encryptRows m n len bad a es E p room) tt e in
+    let r : room ≡ n + 1 = length-ok _ _ eleven in
+    let k : length a ≡ n = length-ok _ _ masks in
+    let o : length es ≡ 1 = length-ok _ _ errors in
+    record { positive = omega (arith, modulus-ok 32 (meant m) (omega arith) two); key = length-ok _ _ nine; mask = k; fits = omega arith; one = omega arith }
+
+pub record Phasable (m : Modulus) (n len : ℕ) (x : List ℕ) : Type 0 where
+  pub positive : 0 < sizeOf m
+  pub key : len ≡ n
+  pub whole : length x ≡ n + 1
+
+pub phasable : (m : Modulus) (n len : ℕ) (bad : Bool) (x : List ℕ) → phaseRefusal m n len bad x ≡ 0 → Phasable m n len x
+unfolding phaseRefusal
+phasable m n len bad x e =
+    let (two, (six, (nine, (ten, rest)))) = passed (phaseRows m n len bad x) tt e in
+    record { positive = omega (arith, modulus-ok 32 (meant m) (omega arith) two); key = length-ok _ _ nine; whole = length-ok _ _ ten }

@@ -1,0 +1,50 @@
+-- The refusals of the calls under a key of `len` numbers, of which check 14 says `bad`; and their answers.
+use mathlib.Core.Bool.{Bool}
+use mathlib.Core.List.{List, [], _∷_}
+use Prim.Native.Nat.{ℕ, _+_}
+use lib.Dec.{eqb}
+use lib.IntN.{ℤ}
+use lib.ListN.{length}
+use Rattle.scheme.specs.Numbers.{pick}
+use Rattle.scheme.specs.Lwe.{phaseOf}
+use Rattle.scheme.specs.Checks.{Check, row, firstOf, modulusFails, dimensionFails, lengthFails, boundFails, wordFails, wordsFail, errorsFail}
+use Rattle.primus_reduce.specs.Ring.{meant, sizeOf}
+use Rattle.primus_reduce.specs.declared.modulus.Modulus.{Modulus}
+use Rattle.primus_lwe.specs.declared.secret_key.borrowed.PhaseAnswer.{PhaseAnswer}
+use Rattle.primus_lwe.specs.declared.secret_key.borrowed.PhaseAnswer.the-variants as P
+
+-- an encryption of p with mask a and the lent errors es into `room` words
+abbrev pub encryptRows : Modulus → ℕ → ℕ → Bool → List ℕ → List ℤ → ℕ → ℕ → ℕ → List Check
+encryptRows m n len bad a es E p room =
+    row (modulusFails (meant m)) 2
+    ∷ row (dimensionFails n) 6
+    ∷ row (lengthFails len n) 9
+    ∷ row (lengthFails room (n + 1)) 11
+    ∷ row (lengthFails (length a) n) 12
+    ∷ row (lengthFails (length es) 1) 12
+    ∷ row (boundFails (sizeOf m) E) 13
+    ∷ row bad 14
+    ∷ row (wordsFail (sizeOf m) a) 14
+    ∷ row (wordFails (sizeOf m) p) 14
+    ∷ row (errorsFail E es) 15
+    ∷ []
+
+unfoldable pub encryptRefusal : Modulus → ℕ → ℕ → Bool → List ℕ → List ℤ → ℕ → ℕ → ℕ → ℕ
+encryptRefusal m n len bad a es E p room = firstOf (encryptRows m n len bad a es E p room)
+
+-- a phase of the ciphertext x
+abbrev pub phaseRows : Modulus → ℕ → ℕ → Bool → List ℕ → List Check
+phaseRows m n len bad x =
+    row (modulusFails (meant m)) 2
+    ∷ row (dimensionFails n) 6
+    ∷ row (lengthFails len n) 9
+    ∷ row (lengthFails (length x) (n + 1)) 10
+    ∷ row bad 14
+    ∷ row (wordsFail (sizeOf m) x) 14
+    ∷ []
+
+unfoldable pub phaseRefusal : Modulus → ℕ → ℕ → Bool → List ℕ → ℕ
+phaseRefusal m n len bad x = firstOf (phaseRows m n len bad x)
+
+abbrev pub phaseAnswer : Modulus → ℕ → ℕ → Bool → (ℕ → ℤ) → List ℕ → PhaseAnswer
+phaseAnswer m n len bad s x = pick (eqb (phaseRefusal m n len bad x) 0) (P.Phase (phaseOf (sizeOf m) n x s)) (P.Refused (phaseRefusal m n len bad x))

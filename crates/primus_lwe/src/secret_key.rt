@@ -1,0 +1,8 @@
+// Encryption and phases under a secret key: words below q, or signed numbers c that stand for c modulo q.
+mod borrowed;
+
+pub use borrowed::PhaseAnswer;
+pub use borrowed::decrypt_phase;
+pub use borrowed::decrypt_phase_signed;
+pub use borrowed::encrypt_encoded_signed_to;
+pub use borrowed::encrypt_encoded_to;
