@@ -178,12 +178,7 @@ fn phase(ciphertext: &[u32], n: usize, modulus: Modulus, sum: u32) -> u32
 }
 
 // b − ⟨a, s⟩ modulo q. Refuses by 2, 6, 9, 10, 14. The key has no number for the body, so in the inner product it counts as 0.
-pub fn decrypt_phase(
-    modulus: Modulus,
-    n: usize,
-    secret: &[u32],
-    ciphertext: &[u32],
-) -> PhaseAnswer
+pub fn decrypt_phase(modulus: Modulus, n: usize, secret: &[u32], ciphertext: &[u32]) -> PhaseAnswer
     ensures { λ r. ⌜ r ≡ phaseAnswer modulus n (length (now (secret .entry))) (wordsFail (sizeOf modulus) (now (secret .entry))) (words (now (secret .entry))) (now (ciphertext .entry)) ⌝ }
 {
     let bad = checks::words_refused(modulus, secret);
