@@ -10,16 +10,25 @@ use lib.Dec.{eqb}
 use lib.IntN.{ℤ, pos, _+ℤ_, _-ℤ_, _*ℤ_, +ℤ-idr, *ℤ-zero}
 use lib.ListN.{length, getD, length-append, List·getD-append, List·getD-eq-default}
 use lib.Seq.{getD-at}
-use borrow.Author.Tests.{ne-eqb}
+use borrow.Author.Tests.{eq-eqb, ne-eqb, lt-leb}
 use Rattle.scheme.specs.Numbers.{pick, residue, Cong, sumTo}
 use Rattle.scheme.specs.Lwe.{words, signed, inner, bodyOf, encrypted, phaseOf}
-use Rattle.scheme.proofs.Residue.{cong-refl, cong-add, residue-cong}
+use Rattle.scheme.specs.Codec.{decode}
+use Rattle.scheme.specs.Checks.{Check, firstOf, codecRows, codecRefusal}
+use Rattle.scheme.proofs.Residue.{residue-lt, cong-refl, cong-add, residue-cong}
 use Rattle.scheme.proofs.Lwe.{cong-sub, stands}
-use Rattle.scheme.proofs.Checks.{passed, modulus-ok, length-ok}
+use Rattle.scheme.proofs.Checks.{Passes, passed, modulus-ok, length-ok}
 use Rattle.primus_reduce.specs.Ring.{meant, sizeOf, modulo}
 use Rattle.primus_reduce.specs.Dot.{dot, dotSigned}
 use Rattle.primus_reduce.specs.declared.modulus.Modulus.{Modulus}
-use Rattle.primus_lwe.specs.Answers.{encryptRows, encryptRefusal, phaseRows, phaseRefusal}
+use Rattle.primus_encoding.specs.Answers.{codecTried, answer, encodeRows, encodeWord, encodeAnswer, decodeRows, decodeAnswer}
+use Rattle.primus_encoding.specs.declared.PlaintextEmbedding.{PlaintextEmbedding}
+use Rattle.primus_encoding.specs.declared.rounded.RoundedCodec.{RoundedCodec}
+use Rattle.primus_encoding.specs.declared.RoundedCodecAnswer.{RoundedCodecAnswer}
+use Rattle.primus_encoding.specs.declared.RoundedCodecAnswer.the-variants as C
+use Rattle.primus_encoding.specs.declared.WordAnswer.{WordAnswer}
+use Rattle.primus_encoding.specs.declared.WordAnswer.the-variants as W
+use Rattle.primus_lwe.specs.Answers.{encryptRows, encryptRefusal, phaseRows, phaseRefusal, messageRows, messageRefusal, openRows, openRefusal}
 
 -- the word that a reduction gives stands for its number
 pub modulo-stands : {q w : ℕ} → 0 < q → (z : ℤ) → w ≡ modulo q z → Cong q (pos w) z
@@ -116,3 +125,101 @@ unfolding phaseRefusal
 phasable m n len bad x e =
     let (two, (six, (nine, (ten, rest)))) = passed (phaseRows m n len bad x) tt e in
     record { positive = omega (arith, modulus-ok 32 (meant m) (omega arith) two); key = length-ok _ _ nine; whole = length-ok _ _ ten }
+
+-- ---- the codec, whose checks have passed
+
+none-fails : (cs : List Check) → Passes cs → firstOf cs ≡ 0
+unfolding firstOf
+none-fails [] p = refl
+none-fails (c ∷ cs) p = rw (p .0) (none-fails cs (p .1))
+
+abbrev codecOf : ℕ → Modulus → RoundedCodec
+codecOf t m = record { «plaintext_modulus» = t; «ciphertext_modulus» = m }
+
+module _ (R t : ℕ) (m : Modulus) (tried : RoundedCodecAnswer) (z : R ≡ 0) (e : tried ≡ codecTried R t m) where
+  accepted : tried ≡ C.Accepted (codecOf t m)
+  accepted = e ∙ plain
+    where
+      plain : codecTried R t m ≡ C.Accepted (codecOf t m)
+      plain = rw (eq-eqb R 0 z)
+
+  pub codec-made : (codec : RoundedCodec) → tried ≡ C.Accepted codec → codec ≡ codecOf t m
+  codec-made codec f = let g : C.Accepted codec ≡ C.Accepted (codecOf t m) = sym f ∙ accepted in cc
+
+  pub codec-not : (r : ℕ) → tried ≡ C.Refused r → ⊥
+  codec-not r f = let g : C.Refused r ≡ C.Accepted (codecOf t m) = sym f ∙ accepted in let k : _≡_ {A = ℕ} 0 1 = cc in omega arith
+
+module _ (R x : ℕ) (word : WordAnswer) (z : R ≡ 0) (e : word ≡ answer R x) where
+  given-word : word ≡ W.Word x
+  given-word = e ∙ plain
+    where
+      plain : answer R x ≡ W.Word x
+      plain = rw (eq-eqb R 0 z)
+
+  word-made : (p : ℕ) → word ≡ W.Word p → p ≡ x
+  word-made p f = let g : W.Word p ≡ W.Word x = sym f ∙ given-word in cc
+
+  word-not : (r : ℕ) → word ≡ W.Refused r → ⊥
+  word-not r f = let g : W.Refused r ≡ W.Word x = sym f ∙ given-word in let k : _≡_ {A = ℕ} 0 1 = cc in omega arith
+
+module _ (t : ℕ) (m : Modulus) (x : ℕ) (codec : RoundedCodec) (k : codec ≡ codecOf t m) (word : WordAnswer) where
+  module _ (g : PlaintextEmbedding) (z : firstOf (encodeRows t m x) ≡ 0) (e : word ≡ encodeAnswer (codec .«plaintext_modulus») (codec .«ciphertext_modulus») g x) where
+    same : word ≡ encodeAnswer t m g x
+    same = e ∙ ap (λ c. encodeAnswer (c .«plaintext_modulus») (c .«ciphertext_modulus») g x) k
+
+    pub encode-made : (p : ℕ) → word ≡ W.Word p → p ≡ encodeWord g (sizeOf m) t x
+    encode-made p f = word-made _ _ word z same p f
+
+    pub encode-not : (r : ℕ) → word ≡ W.Refused r → ⊥
+    encode-not r f = word-not _ _ word z same r f
+
+  module _ (z : firstOf (decodeRows t m x) ≡ 0) (e : word ≡ decodeAnswer (codec .«plaintext_modulus») (codec .«ciphertext_modulus») x) where
+    same-decode : word ≡ decodeAnswer t m x
+    same-decode = e ∙ ap (λ c. decodeAnswer (c .«plaintext_modulus») (c .«ciphertext_modulus») x) k
+
+    pub decode-made : (p : ℕ) → word ≡ W.Word p → p ≡ decode (sizeOf m) t x
+    decode-made p f = word-made _ _ word z same-decode p f
+
+    pub decode-not : (r : ℕ) → word ≡ W.Refused r → ⊥
+    decode-not r f = word-not _ _ word z same-decode r f
+
+-- ---- what the checks of a message leave
+
+pub record Messageable (m : Modulus) (n t len : ℕ) (a : List ℕ) (es : List ℤ) (x room : ℕ) : Type 0 where
+  pub plain : Encryptable m n len a es room
+  pub codec : codecRefusal t (meant m) ≡ 0
+  pub message : firstOf (encodeRows t m x) ≡ 0
+
+pub messageable : (m : Modulus) (n t len : ℕ) (bad : Bool) (a : List ℕ) (es : List ℤ) (E x room : ℕ) → messageRefusal m n t len bad a es E x room ≡ 0
+    → Messageable m n t len a es x room
+unfolding messageRefusal
+messageable m n t len bad a es E x room e =
+    let (two, (six, (seven, (eight, (nine, (eleven, (masks, (errors, (thirteen, (key, (mask, (fifteen, (sixteen, end))))))))))))) = passed (messageRows m n t len bad a es E x room) tt e in
+    let r : room ≡ n + 1 = length-ok _ _ eleven in
+    let k : length a ≡ n = length-ok _ _ masks in
+    let o : length es ≡ 1 = length-ok _ _ errors in
+    record {
+      plain =
+          record { positive = omega (arith, modulus-ok 32 (meant m) (omega arith) two); key = length-ok _ _ nine; mask = k; fits = omega arith; one = omega arith };
+      codec = none-fails (codecRows t (meant m)) (two, (seven, (eight, tt)));
+      message = none-fails (encodeRows t m x) (two, (seven, (eight, (sixteen, tt))));
+    }
+
+pub record Openable (m : Modulus) (n t len : ℕ) (x : List ℕ) : Type 0 where
+  pub phase : Phasable m n len x
+  pub codec : codecRefusal t (meant m) ≡ 0
+  pub word : (p : ℕ) → p < sizeOf m → firstOf (decodeRows t m p) ≡ 0
+
+pub openable : (m : Modulus) (n t len : ℕ) (bad : Bool) (x : List ℕ) → openRefusal m n t len bad x ≡ 0 → Openable m n t len x
+unfolding openRefusal
+openable m n t len bad x e =
+    let (two, (six, (seven, (eight, (nine, (ten, rest)))))) = passed (openRows m n t len bad x) tt e in
+    record {
+      phase = record { positive = omega (arith, modulus-ok 32 (meant m) (omega arith) two); key = length-ok _ _ nine; whole = length-ok _ _ ten };
+      codec = none-fails (codecRows t (meant m)) (two, (seven, (eight, tt)));
+      word = λ p h. none-fails (decodeRows t m p) (two, (seven, (eight, (lt-leb (sizeOf m) p h, tt))));
+    }
+
+pub phase-below : (q n : ℕ) (x : List ℕ) (s : ℕ → ℤ) (p : ℕ) → 0 < q → p ≡ phaseOf q n x s → p < q
+unfolding phaseOf
+phase-below q n x s p h e = rw e (residue-lt (pos (getD x n 0) -ℤ inner n x s) q h)

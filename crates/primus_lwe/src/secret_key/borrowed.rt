@@ -19,7 +19,7 @@ pub enum PhaseAnswer {
 }
 
 // The lent error, as a residue.
-fn error_residue(errors: &[i32], modulus: Modulus) -> u32
+pub(crate) fn error_residue(errors: &[i32], modulus: Modulus) -> u32
     requires { ⌜ 0 < length (now errors) ⌝ }
     ensures { λ r. ⌜ r ≡ modulo (sizeOf modulus) (getD (now (errors .entry)) 0 (pos 0)) ⌝ }
 {
@@ -40,7 +40,7 @@ fn write(out: &mut [u32], mask: &[u32], body: u32)
 }
 
 // The innermost step: (a, sum + e + p), where the words sum and e stand for ⟨a, s⟩ and the error modulo q.
-fn encrypt_mask_body(
+pub(crate) fn encrypt_mask_body(
     out: &mut [u32],
     mask: &[u32],
     modulus: Modulus,
@@ -170,7 +170,7 @@ fn phase_refusal(
 }
 
 // b − sum, where the word sum stands for ⟨a, s⟩.
-fn phase(ciphertext: &[u32], n: usize, modulus: Modulus, sum: u32) -> u32
+pub(crate) fn phase(ciphertext: &[u32], n: usize, modulus: Modulus, sum: u32) -> u32
     requires { ⌜ n < length (now ciphertext) ⌝ }
     ensures { λ r. ⌜ r ≡ modulo (sizeOf modulus) (pos (getD (now (ciphertext .entry)) n 0) -ℤ pos sum) ⌝ }
 {
