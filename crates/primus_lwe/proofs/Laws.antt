@@ -1,21 +1,22 @@
 -- Laws of the leaves, and what the checks of a call leave.
 -- Assumes nothing.
 use mathlib.Core.Path.{_≡_, refl, sym, ap, ap₂, _∙_}
-use mathlib.Core.Bool.{Bool, false}
+use mathlib.Core.Bool.{Bool, true, false, _||_}
 use mathlib.Core.List.{List, [], _∷_, _++_}
-use Prim.Native.Nat.{ℕ, zero, suc, _+_, _*_, _≤_, _<_}
+use Prim.Native.Nat.{ℕ, zero, suc, _+_, _-_, _*_, _≤_, _<_}
 use native.Mathlib.Numerals.{add-one}
 use native.Mathlib.Omega.{arith}
-use lib.Dec.{eqb}
+use lib.Dec.{eqb, ltb}
 use lib.IntN.{ℤ, pos, _+ℤ_, _-ℤ_, _*ℤ_, +ℤ-idr, *ℤ-zero}
-use lib.ListN.{length, getD, length-append, List·getD-append, List·getD-eq-default}
-use lib.Seq.{getD-at}
-use borrow.Author.Tests.{eq-eqb, ne-eqb, lt-leb}
+use lib.ListN.{length, getD, take, drop, length-drop, length-append, List·getD-append, List·getD-eq-default}
+use lib.Seq.{getD-at, getD-take, getD-drop, length-take-le}
+use borrow.Author.Tests.{eq-eqb, ne-eqb, lt-leb, lt-ltb, le-ltb, ltb-true, ltb-false}
 use Rattle.scheme.specs.Numbers.{pick, residue, Cong, sumTo}
-use Rattle.scheme.specs.Lwe.{words, signed, inner, bodyOf, encrypted, phaseOf}
+use Rattle.scheme.specs.Lwe.{words, signed, inner, bodyOf, encrypted, phaseOf, rotated, packedPhase}
 use Rattle.scheme.specs.Codec.{decode}
 use Rattle.scheme.specs.Checks.{Check, firstOf, codecRows, codecRefusal}
 use Rattle.scheme.proofs.Residue.{residue-lt, cong-refl, cong-add, residue-cong}
+use Rattle.scheme.proofs.Sums.{sum-ext}
 use Rattle.scheme.proofs.Lwe.{cong-sub, stands}
 use Rattle.scheme.proofs.Checks.{Passes, passed, modulus-ok, length-ok}
 use Rattle.primus_reduce.specs.Ring.{meant, sizeOf, modulo}
@@ -28,7 +29,7 @@ use Rattle.primus_encoding.specs.declared.RoundedCodecAnswer.{RoundedCodecAnswe
 use Rattle.primus_encoding.specs.declared.RoundedCodecAnswer.the-variants as C
 use Rattle.primus_encoding.specs.declared.WordAnswer.{WordAnswer}
 use Rattle.primus_encoding.specs.declared.WordAnswer.the-variants as W
-use Rattle.primus_lwe.specs.Answers.{encryptRows, encryptRefusal, phaseRows, phaseRefusal, messageRows, messageRefusal, openRows, openRefusal}
+use Rattle.primus_lwe.specs.Answers.{encryptRows, encryptRefusal, phaseRows, phaseRefusal, messageRows, messageRefusal, openRows, openRefusal, packedPhaseRows}
 
 -- the word that a reduction gives stands for its number
 pub modulo-stands : {q w : ℕ} → 0 < q → (z : ℤ) → w ≡ modulo q z → Cong q (pos w) z
@@ -223,3 +224,69 @@ openable m n t len bad x e =
 pub phase-below : (q n : ℕ) (x : List ℕ) (s : ℕ → ℤ) (p : ℕ) → 0 < q → p ≡ phaseOf q n x s → p < q
 unfolding phaseOf
 phase-below q n x s p h e = rw e (residue-lt (pos (getD x n 0) -ℤ inner n x s) q h)
+
+-- ---- packed ciphertexts
+
+-- a part of the mask and a part of the key
+pub dot-prefix : (a s : List ℕ) (m i k : ℕ) → m ≤ length a → m ≤ k → dot (take m a) (take k (drop i s)) ≡ sumTo m (λ j. pos (getD a j 0) *ℤ words s (j + i))
+unfolding dot
+dot-prefix a s m i k h g =
+    ap (λ z. sumTo z (λ j. pos (getD (take m a) j 0) *ℤ pos (getD (take k (drop i s)) j 0))) (length-take-le m a h)
+    ∙ sum-ext m _ _ (λ j l. ap₂ (λ (x : ℕ) (y : ℕ). pos x *ℤ pos y) (getD-take m a j 0 l) (getD-take k (drop i s) j 0 (omega arith) ∙ getD-drop i s j 0 ∙ ap (λ z. getD s z 0) (turned i j)))
+  where
+    turned : (i j : ℕ) → i + j ≡ j + i
+    turned i j = omega arith
+
+pub dot-suffix : (a s : List ℕ) (m i w : ℕ) → w ≡ i → m + i ≤ length a → dot (take w (drop m a)) (take i s) ≡ sumTo i (λ k. pos (getD a (m + k) 0) *ℤ words s k)
+unfolding dot
+dot-suffix a s m i w e h =
+    ap (λ z. sumTo z (λ j. pos (getD (take w (drop m a)) j 0) *ℤ pos (getD (take i s) j 0))) (length-take-le w (drop m a) (omega (arith, length-drop m a)) ∙ e)
+    ∙ sum-ext i _ _ (λ j l. ap₂ (λ (x : ℕ) (y : ℕ). pos x *ℤ pos y) (getD-take w (drop m a) j 0 (omega arith) ∙ getD-drop m a j 0) (getD-take i s j 0 l))
+
+module _ (q n i : ℕ) (h : 0 < q) (a : List ℕ) (s : ℕ → ℤ) where
+  pub rotated-is : (A B : ℤ) (x y r : ℕ) → A ≡ sumTo (n - i) (λ j. pos (getD a j 0) *ℤ s (j + i)) → B ≡ sumTo i (λ k. pos (getD a (n - i + k) 0) *ℤ s k)
+      → x ≡ modulo q A → y ≡ modulo q B → r ≡ modulo q (pos x -ℤ pos y) → r ≡ modulo q (rotated n a s i)
+  unfolding rotated
+  rotated-is A B x y r ea eb ex ey e =
+      e ∙ ap (λ z. pick (eqb q 0) 0 z) (residue-cong h (cong-sub first second))
+    where
+      first : Cong q (pos x) (sumTo (n - i) (λ j. pos (getD a j 0) *ℤ s (j + i)))
+      first = rw (← ea) (modulo-stands h A ex)
+
+      second : Cong q (pos y) (sumTo i (λ k. pos (getD a (n - i + k) 0) *ℤ s k))
+      second = rw (← eb) (modulo-stands h B ey)
+
+  pub packed-is : (x : ℕ) {r : ℕ} → x ≡ modulo q (rotated n a s i) → r ≡ modulo q (pos (getD a (n + i) 0) -ℤ pos x) → r ≡ packedPhase q n a s i
+  unfolding packedPhase
+  packed-is x ex e = e ∙ rw (ne-eqb q 0 (λ f. omega arith)) (residue-cong h (cong-sub (cong-refl q (pos (getD a (n + i) 0))) (modulo-stands h (rotated n a s i) ex)))
+
+-- n + n < len, told from n < len − n
+pub bodies-above : (len n : ℕ) → n ≤ len → ltb n (len - n) ≡ (ltb len n || ltb (n + n) len)
+bodies-above len n h = go (ltb n (len - n)) refl
+  where
+    go : (b : Bool) → ltb n (len - n) ≡ b → b ≡ (ltb len n || ltb (n + n) len)
+    go true e = rw (le-ltb len n h, lt-ltb (n + n) len (omega (arith, ltb-true n (len - n) e)))
+    go false e = rw (le-ltb len n h, le-ltb (n + n) len (omega (arith, ltb-false n (len - n) e)))
+
+pub record PhasablePacked (m : Modulus) (n len words room : ℕ) : Type 0 where
+  pub positive : 0 < sizeOf m
+  pub key : len ≡ n
+  pub bodies : room ≤ n
+  pub whole : words ≡ n + room
+  pub count : room ≡ words - n
+
+pub phasable-packed : (m : Modulus) (n : ℕ) (s x : List ℕ) (room : ℕ) → firstOf (packedPhaseRows m n s x room) ≡ 0 → PhasablePacked m n (length s) (length x) room
+phasable-packed m n s x room e =
+    let (two, (six, (nine, (ten, (eleven, rest))))) = passed (packedPhaseRows m n s x room) tt e in
+    let l : n ≤ length x = ltb-false (length x) n (or-left (ltb (length x) n) (ltb (n + n) (length x)) ten) in
+    let u : length x ≤ n + n = ltb-false (n + n) (length x) (or-right (ltb (length x) n) (ltb (n + n) (length x)) ten) in
+    let c : room ≡ length x - n = length-ok _ _ eleven in
+    record { positive = omega (arith, modulus-ok 32 (meant m) (omega arith) two); key = length-ok _ _ nine; bodies = omega arith; whole = omega arith; count = c }
+  where
+    or-left : (a b : Bool) → (a || b) ≡ false → a ≡ false
+    or-left true b e = e
+    or-left false b e = refl
+
+    or-right : (a b : Bool) → (a || b) ≡ false → b ≡ false
+    or-right true b e = let z : true ≡ false = e in cc
+    or-right false b e = e

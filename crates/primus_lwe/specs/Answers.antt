@@ -1,8 +1,8 @@
 -- The refusals of the calls under a key of `len` numbers, of which check 14 says `bad`; and their answers.
-use mathlib.Core.Bool.{Bool}
+use mathlib.Core.Bool.{Bool, _||_}
 use mathlib.Core.List.{List, [], _∷_}
-use Prim.Native.Nat.{ℕ, _+_}
-use lib.Dec.{eqb}
+use Prim.Native.Nat.{ℕ, _+_, _-_}
+use lib.Dec.{eqb, ltb}
 use lib.IntN.{ℤ}
 use lib.ListN.{length}
 use Rattle.scheme.specs.Numbers.{pick}
@@ -92,3 +92,19 @@ openRefusal m n t len bad x = firstOf (openRows m n t len bad x)
 abbrev pub messageAnswer : Modulus → ℕ → ℕ → ℕ → Bool → (ℕ → ℤ) → List ℕ → MessageAnswer
 messageAnswer m n t len bad s x =
     pick (eqb (openRefusal m n t len bad x) 0) (M.Message (decode (sizeOf m) t (phaseOf (sizeOf m) n x s))) (M.Refused (openRefusal m n t len bad x))
+
+-- "10. … packed messages or bodies number more than n (fewer than n words in a packed input count here)", of a packed input of `len` words
+abbrev pub packedFails : ℕ → ℕ → Bool
+packedFails len n = ltb len n || ltb (n + n) len
+
+-- the phases of the packed ciphertext x under the words s
+abbrev pub packedPhaseRows : Modulus → ℕ → List ℕ → List ℕ → ℕ → List Check
+packedPhaseRows m n s x room =
+    row (modulusFails (meant m)) 2
+    ∷ row (dimensionFails n) 6
+    ∷ row (lengthFails (length s) n) 9
+    ∷ row (packedFails (length x) n) 10
+    ∷ row (lengthFails room (length x - n)) 11
+    ∷ row (wordsFail (sizeOf m) s) 14
+    ∷ row (wordsFail (sizeOf m) x) 14
+    ∷ []

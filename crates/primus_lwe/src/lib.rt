@@ -6,6 +6,7 @@ pub use secret_key::PhaseAnswer;
 pub use secret_key::decrypt_message;
 pub use secret_key::decrypt_message_signed;
 pub use secret_key::decrypt_phase;
+pub use secret_key::decrypt_phase_packed_to;
 pub use secret_key::decrypt_phase_signed;
 pub use secret_key::encrypt_encoded_signed_to;
 pub use secret_key::encrypt_encoded_to;
