@@ -3,7 +3,7 @@
 use mathlib.Core.Path.{_≡_, refl, sym, ap, _∙_}
 use mathlib.Core.Bool.{Bool, true, false, not, _&&_}
 use mathlib.Core.List.{List, [], _∷_, _++_}
-use Prim.Native.Nat.{ℕ, zero, suc, _+_, _*_, _/_, _%_, _≤_, _<_}
+use Prim.Native.Nat.{ℕ, zero, suc, _+_, _*_, _-_, _/_, _%_, _≤_, _<_}
 use native.Mathlib.Nat.{mul-zero, mul-mod-left, mul-div-cancel, div-add-mod}
 use native.Mathlib.Numerals.{add-one}
 use native.Mathlib.Omega.{arith}
@@ -35,6 +35,13 @@ module _ (len count width : ℕ) where
       (λ e. let d = div-add-mod len width in omega (arith, d, ap (λ n. width * n) e))
       (λ e. ap (λ n. n / width) e ∙ mul-div-cancel count (omega arith)))
 
+-- n words and one more
+pub one-more-none : (len n : ℕ) → len ≡ 0 → true ≡ lengthFails len (n + 1)
+one-more-none len n e = sym (ap not (ne-eqb len (n + 1) (λ z. omega arith)))
+
+pub one-more : (len n : ℕ) → (len ≡ 0 → ⊥) → not (eqb (len - 1) n) ≡ lengthFails len (n + 1)
+one-more len n h = ap not (eqb-iff (len - 1) n len (n + 1) (λ e. omega arith) (λ e. omega arith))
+
 -- ---- a scan with no early exit
 
 all-snoc : {A : Type 0} (p : A → Bool) (xs : List A) (x : A) → allOf p (xs ++ x ∷ []) ≡ (allOf p xs && p x)
@@ -50,40 +57,40 @@ all-snoc p (y ∷ xs) x = ap (λ b. p y && b) (all-snoc p xs x) ∙ and-assoc (p
     and-assoc true b c = refl
     and-assoc false b c = refl
 
--- whether one of the first i words is not below q
-pub anyFails : ℕ → List ℕ → ℕ → Bool
-anyFails q xs i = not (allOf (λ x. ltb x q) (take i xs))
+-- whether one of the first i elements fails the test p
+pub anyFails : {A : Type 0} → (A → Bool) → List A → ℕ → Bool
+anyFails p xs i = not (allOf p (take i xs))
 
-module _ (q : ℕ) (xs : List ℕ) (i : ℕ) where
-  pub any-none : false ≡ anyFails q xs 0
+module _ {A : Type 0} (p : A → Bool) (d : A) (xs : List A) (i : ℕ) where
+  pub any-none : false ≡ anyFails p xs 0
   unfolding anyFails allOf
   any-none = refl
 
-  step : i < length xs → anyFails q xs (i + 1) ≡ not (allOf (λ x. ltb x q) (take i xs) && ltb (getD xs i 0) q)
+  step : i < length xs → anyFails p xs (i + 1) ≡ not (allOf p (take i xs) && p (getD xs i d))
   unfolding anyFails
   step h =
-      ap (λ n. not (allOf (λ x. ltb x q) (take n xs))) (add-one i)
-      ∙ ap (λ l. not (allOf (λ x. ltb x q) l)) (take-suc xs i 0 h)
-      ∙ ap not (all-snoc (λ x. ltb x q) (take i xs) (getD xs i 0))
+      ap (λ n. not (allOf p (take n xs))) (add-one i)
+      ∙ ap (λ l. not (allOf p l)) (take-suc xs i d h)
+      ∙ ap not (all-snoc p (take i xs) (getD xs i d))
 
-  pub any-hit : i < length xs → q ≤ getD xs i 0 → true ≡ anyFails q xs (i + 1)
-  any-hit h k = sym (step h ∙ ap (λ b. not (allOf (λ x. ltb x q) (take i xs) && b)) (le-ltb (getD xs i 0) q k) ∙ ap not (and-no (allOf (λ x. ltb x q) (take i xs))))
+  pub any-hit : i < length xs → p (getD xs i d) ≡ false → true ≡ anyFails p xs (i + 1)
+  any-hit h k = sym (step h ∙ ap (λ b. not (allOf p (take i xs) && b)) k ∙ ap not (and-no (allOf p (take i xs))))
     where
       and-no : (a : Bool) → (a && false) ≡ false
       and-no true = refl
       and-no false = refl
 
-  pub any-more : {b : Bool} → b ≡ anyFails q xs i → i < length xs → getD xs i 0 < q → b ≡ anyFails q xs (i + 1)
+  pub any-more : {b : Bool} → b ≡ anyFails p xs i → i < length xs → p (getD xs i d) ≡ true → b ≡ anyFails p xs (i + 1)
   unfolding anyFails
-  any-more e h k = e ∙ sym (step h ∙ ap (λ b. not (allOf (λ x. ltb x q) (take i xs) && b)) (lt-ltb (getD xs i 0) q k) ∙ ap not (and-yes (allOf (λ x. ltb x q) (take i xs))))
+  any-more e h k = e ∙ sym (step h ∙ ap (λ b. not (allOf p (take i xs) && b)) k ∙ ap not (and-yes (allOf p (take i xs))))
     where
       and-yes : (a : Bool) → (a && true) ≡ a
       and-yes true = refl
       and-yes false = refl
 
-  pub any-all : {b : Bool} → b ≡ anyFails q xs i → length xs ≤ i → b ≡ wordsFail q xs
-  unfolding anyFails wordsFail
-  any-all e h = e ∙ ap (λ l. not (allOf (λ x. ltb x q) l)) (take-all i xs h)
+  pub any-all : {b : Bool} → b ≡ anyFails p xs i → length xs ≤ i → b ≡ not (allOf p xs)
+  unfolding anyFails
+  any-all e h = e ∙ ap (λ l. not (allOf p l)) (take-all i xs h)
 
 all-below : (q : ℕ) (xs : List ℕ) → ((i : ℕ) → getD xs i 0 < q) → allOf (λ x. ltb x q) xs ≡ true
 unfolding allOf

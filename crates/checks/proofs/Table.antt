@@ -77,3 +77,10 @@ refused {refusal} {r} {result} {before} e h =
 
 pub done : {A : Type 0} {refusal : ℕ} {result before written : List A} → refusal ≡ 0 → written ≡ result → Answers refusal result before 0 written
 done {refusal} e w = record { number = sym e; written = rw (eq-eqb refusal 0 e) w }
+
+-- the two ways through a call with an answer of its own: the refusal, by the variant `say`, or the value
+pub told : {A : Type 0} (say : ℕ → A) (R r : ℕ) (x : A) → r ≡ R → (r ≡ 0 → ⊥) → say r ≡ pick (eqb R 0) x (say R)
+told say R r x e h = ap say e ∙ rw (ne-eqb R 0 (λ z. h (e ∙ z)))
+
+pub given : {A : Type 0} (R : ℕ) (v x y : A) → R ≡ 0 → v ≡ x → v ≡ pick (eqb R 0) x y
+given R v x y e f = rw (eq-eqb R 0 e) f

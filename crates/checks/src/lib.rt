@@ -1,10 +1,11 @@
 // Checks that several calls share, each exact for every input, and the chain that keeps the first number.
 ghost use mathlib.Core.Path.{_≡_};
-ghost use Prim.Native.Nat.{_*_};
-ghost use Rattle.scheme.specs.Checks.{modulusFails, plaintextFails, smallFails, lengthFails, wordFails, wordsFail, messageFails, messagesFail};
+ghost use Prim.Native.Nat.{_+_, _*_};
+ghost use Rattle.scheme.specs.Checks.{modulusFails, plaintextFails, smallFails, lengthFails, boundFails, wordFails, wordsFail, magnitudesFail, signedFail, errorsFail, coefficientsFail, messageFails, messagesFail};
 ghost use Rattle.primus_reduce.specs.Ring.{meant, sizeOf};
 ghost use Rattle.checks.specs.Refuse.{Next};
 use primus_reduce::Modulus;
+use primus_reduce::magnitude;
 
 // The refusal r so far, or `number` where there is none yet and this check fails.
 pub fn refuse(r: u32, fails: bool, number: u32) -> u32
@@ -52,6 +53,16 @@ pub fn length_differs(len: usize, n: usize) -> bool
     len != n
 }
 
+// 10, 11: `len` is not n mask words and a body. No sum: it could overflow.
+pub fn ciphertext_differs(len: usize, n: usize) -> bool
+    ensures { λ r. ⌜ r ≡ lengthFails len (n + 1) ⌝ }
+{
+    if len == 0 {
+        return true;
+    }
+    len - 1 != n
+}
+
 // 9 to 12: `len` is not `count` runs of `width`. No product: it could overflow.
 pub fn runs_differ(len: usize, count: usize, width: usize) -> bool
     ensures { λ r. ⌜ r ≡ lengthFails len (count * width) ⌝ }
@@ -63,6 +74,14 @@ pub fn runs_differ(len: usize, count: usize, width: usize) -> bool
         return true;
     }
     len / width != count
+}
+
+// 13: E is above 1,048,576, or not below q.
+pub fn bound_refused(bound: u32, q: Modulus) -> bool
+    ensures { λ r. ⌜ r ≡ boundFails (sizeOf q) bound ⌝ }
+{
+    let q = q.size();
+    1_048_576 < bound || q <= bound as u64
 }
 
 // 14, one word.
@@ -95,6 +114,43 @@ pub fn words_refused(q: Modulus, s: &[u32]) -> bool
         Modulus::Native => false,
         Modulus::Explicit(q) => any_refused(s, q),
     }
+}
+
+// Whether some |c| is not below the limit; no early exit, as for words.
+fn any_outside(s: &[i32], limit: u64) -> bool
+    ensures { λ r. ⌜ r ≡ magnitudesFail limit (now (s .entry)) ⌝ }
+{
+    let mut any = false;
+    let mut i = 0;
+    while i < s.len() {
+        let c = s[i];
+        if limit <= magnitude(c) as u64 {
+            any = true;
+        }
+        i += 1;
+    }
+    any
+}
+
+// 14, a run of signed numbers: |c| ≥ q.
+pub fn signed_refused(q: Modulus, s: &[i32]) -> bool
+    ensures { λ r. ⌜ r ≡ signedFail (sizeOf q) (now (s .entry)) ⌝ }
+{
+    any_outside(s, q.size())
+}
+
+// 15, errors: outside ±E.
+pub fn errors_refused(bound: u32, s: &[i32]) -> bool
+    ensures { λ r. ⌜ r ≡ errorsFail bound (now (s .entry)) ⌝ }
+{
+    any_outside(s, bound as u64 + 1)
+}
+
+// 15, coefficients: none of −1, 0, 1.
+pub fn coefficients_refused(s: &[i32]) -> bool
+    ensures { λ r. ⌜ r ≡ coefficientsFail (now (s .entry)) ⌝ }
+{
+    any_outside(s, 2)
 }
 
 // 16, one message.

@@ -11,6 +11,7 @@ use native.Mathlib.Nat.{le-div-iff-mul-le}
 use native.Mathlib.Decide.{decLe}
 use native.Mathlib.Omega.{arith}
 use lib.Dec.{T, ltb, leb, eqb}
+use lib.IntN.{ℤ, pos, natAbs}
 use lib.ListN.{length, getD}
 use lib.Pow.{pow-lt, pow-mono}
 use mir.Facts.{and-yes, eqb-no}
@@ -18,7 +19,7 @@ use borrow.Author.Tests.{ltb-true, ltb-false, leb-false, eqb-true, not-false, le
 use Rattle.scheme.specs.Numbers.{pick}
 use Rattle.scheme.specs.Modulus.{Modulus, Native, Explicit, size, bits, Fits}
 use Rattle.scheme.specs.Basis.{Accepted, basisOf, fullCount}
-use Rattle.scheme.specs.Checks.{Check, firstOf, allOf, baseLogFails, modulusFails, baseFails, fullFails, levelsFail, basisRows, basisRefusal, plaintextFails, smallFails, codecRows, codecRefusal, lengthFails, wordFails, wordsFail, messageFails}
+use Rattle.scheme.specs.Checks.{Check, firstOf, allOf, baseLogFails, modulusFails, baseFails, fullFails, levelsFail, basisRows, basisRefusal, dimensionFails, plaintextFails, smallFails, codecRows, codecRefusal, lengthFails, boundFails, wordFails, wordsFail, magnitudesFail, messageFails}
 use Rattle.scheme.proofs.Modulus.{bits-most, bits-cover, bits-tight}
 
 -- no check's number is 0
@@ -109,6 +110,10 @@ base-ok w b (Explicit q) h e = ltb-false q (2 ^ b) e
 pub levels-ok : (k b L : ℕ) → levelsFail k b L ≡ false → (1 ≤ L) × (L ≤ fullCount k b)
 levels-ok k b L e = (ltb-false L 1 (or-left (ltb L 1) (ltb (k / b) L) e), ltb-false (k / b) L (or-right (ltb L 1) (ltb (k / b) L) e))
 
+-- 6
+pub dimension-ok : (n : ℕ) → dimensionFails n ≡ false → (1 ≤ n) × (n ≤ 2048)
+dimension-ok n e = (ltb-false n 1 (or-left (ltb n 1) (ltb 2048 n) e), ltb-false 2048 n (or-right (ltb n 1) (ltb 2048 n) e))
+
 -- 7; the upper limit of t is no part of what the codec needs
 pub plaintext-ok : (t : ℕ) → plaintextFails t ≡ false → 2 ≤ t
 plaintext-ok t e = ltb-false t 2 (or-left (ltb t 2) (ltb 65536 t) e)
@@ -118,9 +123,13 @@ pub small-ok : (w t : ℕ) (m : Modulus) → t < 2 ^ w → smallFails t m ≡ fa
 small-ok w t Native h e = h
 small-ok w t (Explicit q) h e = leb-false q t e
 
--- 11
+-- 9 to 12
 pub length-ok : (x y : ℕ) → lengthFails x y ≡ false → x ≡ y
 length-ok x y e = eqb-true x y (not-false _ e)
+
+-- 13
+pub bound-ok : (q E : ℕ) → boundFails q E ≡ false → (E ≤ 1048576) × (E < q)
+bound-ok q E e = (ltb-false 1048576 E (or-left (ltb 1048576 E) (leb q E) e), leb-false q E (or-right (ltb 1048576 E) (leb q E) e))
 
 -- 14
 pub word-ok : (q x : ℕ) → wordFails q x ≡ false → x < q
@@ -129,6 +138,11 @@ word-ok q x f = leb-false q x f
 pub words-ok : (q : ℕ) (xs : List ℕ) → wordsFail q xs ≡ false → (i : ℕ) → i < length xs → getD xs i 0 < q
 unfolding wordsFail
 words-ok q xs f i h = ltb-true (getD xs i 0) q (all-at (λ x. ltb x q) 0 xs (not-false _ f) i h)
+
+-- 14 for signed numbers, and 15
+pub magnitudes-ok : (limit : ℕ) (xs : List ℤ) → magnitudesFail limit xs ≡ false → (i : ℕ) → i < length xs → natAbs (getD xs i (pos 0)) < limit
+unfolding magnitudesFail
+magnitudes-ok limit xs f i h = ltb-true (natAbs (getD xs i (pos 0))) limit (all-at (λ c. ltb (natAbs c) limit) (pos 0) xs (not-false _ f) i h)
 
 -- 16; a run of messages is judged as words-ok says
 pub message-ok : (t m : ℕ) → messageFails t m ≡ false → m < t

@@ -13,3 +13,5 @@ pub mod Cases
 pub mod InPlace
 pub mod Codec
 pub mod CodecCases
+pub mod Lwe
+pub mod Tally

@@ -2,8 +2,9 @@
 use mathlib.Core.Path.{_≡_}
 use mathlib.Core.Bool.{Bool, true, false, not, _||_, _&&_}
 use mathlib.Core.List.{List, [], _∷_}
-use Prim.Native.Nat.{ℕ, zero, suc, _*_, _/_, _^_}
+use Prim.Native.Nat.{ℕ, zero, suc, _+_, _*_, _/_, _^_}
 use lib.Dec.{leb, ltb, eqb}
+use lib.IntN.{ℤ, natAbs}
 use lib.ListN.{length}
 use Rattle.scheme.specs.Numbers.{pick}
 use Rattle.scheme.specs.Modulus.{Modulus, Native, Explicit, size, bits}
@@ -62,6 +63,10 @@ basisRows w m b L =
 abbrev pub basisRefusal : ℕ → Modulus → ℕ → ℕ → ℕ
 basisRefusal w m b L = firstOf (basisRows w m b L)
 
+-- "6. A dimension is 0 or above 2,048."
+abbrev pub dimensionFails : ℕ → Bool
+dimensionFails n = ltb n 1 || ltb 2048 n
+
 -- "7. The plaintext modulus t is below 2 or above 65,536."
 abbrev pub plaintextFails : ℕ → Bool
 plaintextFails t = ltb t 2 || ltb 65536 t
@@ -78,16 +83,36 @@ codecRows t m = row (modulusFails m) 2 ∷ row (plaintextFails t) 7 ∷ row (sma
 abbrev pub codecRefusal : ℕ → Modulus → ℕ
 codecRefusal t m = firstOf (codecRows t m)
 
--- "11. An output has the wrong length."
+-- "9. A key has another length …", "10. A single ciphertext is not n + 1 words", "11. An output has the wrong length.",
+-- "12. Lent masks, errors or coefficients have the wrong length."
 abbrev pub lengthFails : ℕ → ℕ → Bool
 lengthFails x y = not (eqb x y)
 
--- "14. A word is not below q."
+-- "13. E is above 1,048,576, or not below q."
+abbrev pub boundFails : ℕ → ℕ → Bool
+boundFails q E = ltb 1048576 E || leb q E
+
+-- "14. A word is not below q …"
 abbrev pub wordFails : ℕ → ℕ → Bool
 wordFails q x = leb q x
 
 unfoldable pub wordsFail : ℕ → List ℕ → Bool
 wordsFail q xs = not (allOf (λ x. ltb x q) xs)
+
+-- some magnitude is not below the limit
+unfoldable pub magnitudesFail : ℕ → List ℤ → Bool
+magnitudesFail limit xs = not (allOf (λ c. ltb (natAbs c) limit) xs)
+
+-- "14. … or a signed key number has |c| ≥ q."
+abbrev pub signedFail : ℕ → List ℤ → Bool
+signedFail q xs = magnitudesFail q xs
+
+-- "15. An error is outside ±E, or a coefficient is none of −1, 0, 1."
+abbrev pub errorsFail : ℕ → List ℤ → Bool
+errorsFail E xs = magnitudesFail (E + 1) xs
+
+abbrev pub coefficientsFail : List ℤ → Bool
+coefficientsFail xs = magnitudesFail 2 xs
 
 -- "16. A message is not below t."
 abbrev pub messageFails : ℕ → ℕ → Bool

@@ -6,4 +6,6 @@ pub mod Reading
 pub mod Digits
 pub mod Walk
 pub mod Codec
+pub mod Lwe
+pub mod Tally
 pub mod Checks

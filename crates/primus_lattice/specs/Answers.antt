@@ -1,0 +1,66 @@
+-- The answers of the calls: the value that a definition gives, or the first number that applies.
+use mathlib.Core.Bool.{Bool}
+use mathlib.Core.List.{List, [], _∷_, _++_}
+use Prim.Native.Nat.{ℕ, _+_, _^_}
+use lib.Dec.{eqb}
+use lib.ListN.{length}
+use Rattle.scheme.specs.Numbers.{pick}
+use Rattle.scheme.specs.Tally as S
+use Rattle.scheme.specs.Checks.{Check, row, firstOf, modulusFails, dimensionFails, codecRows, lengthFails, wordsFail}
+use Rattle.primus_reduce.specs.Ring.{meant, sizeOf}
+use Rattle.primus_reduce.specs.declared.modulus.Modulus.{Modulus}
+use Rattle.primus_lattice.specs.declared.dimension.LweDimensionAnswer.{LweDimensionAnswer}
+use Rattle.primus_lattice.specs.declared.dimension.LweDimensionAnswer.the-variants as D
+use Rattle.primus_lattice.specs.declared.tag.Tally.{Tally}
+use Rattle.primus_lattice.specs.declared.tag.Tally.the-variants.{Absent, Present}
+use Rattle.primus_lattice.specs.declared.tag.LweTagAnswer.{LweTagAnswer}
+use Rattle.primus_lattice.specs.declared.tag.LweTagAnswer.the-variants as T
+use Rattle.primus_lattice.specs.declared.tag.MarkAnswer.{MarkAnswer}
+use Rattle.primus_lattice.specs.declared.tag.MarkAnswer.the-variants as M
+
+-- a dimension, or refusal 6
+abbrev pub dimensionAnswer : ℕ → LweDimensionAnswer
+dimensionAnswer n = pick (dimensionFails n) (D.Refused 6) (D.Accepted (record { 0 = n }))
+
+-- the tally of document 01, and the value that holds one
+abbrev pub meantTally : Tally → S.Tally
+meantTally Absent = S.Absent
+meantTally (Present a) = S.Present a
+
+abbrev pub heldTally : S.Tally → Tally
+heldTally S.Absent = Absent
+heldTally (S.Present a) = Present a
+
+-- 17: "exceeds 2^32"
+abbrev pub cap : ℕ
+cap = 2 ^ 32
+
+-- "A tally, given or summed"
+abbrev pub tagRows : Tally → Tally → List Check
+tagRows x y =
+    row (S.tallyFails cap (meantTally x)) 17
+    ∷ row (S.tallyFails cap (meantTally y)) 17
+    ∷ row (S.tallyFails cap (S.addTally (meantTally x) (meantTally y))) 17
+    ∷ []
+
+abbrev pub tagAnswer : Tally → Tally → LweTagAnswer
+tagAnswer x y =
+    pick (eqb (firstOf (tagRows x y)) 0) (T.Tag (record { tally = heldTally (S.addTally (meantTally x) (meantTally y)) })) (T.Refused (firstOf (tagRows x y)))
+
+-- the mark judges 2, 7, 8 and 17
+abbrev pub markRows : Tally → Modulus → ℕ → List Check
+markRows x m t = codecRows t (meant m) ++ row (S.tallyFails cap (meantTally x)) 17 ∷ []
+
+abbrev pub markAnswer : Tally → Modulus → ℕ → MarkAnswer
+markAnswer x m t = pick (eqb (firstOf (markRows x m t)) 0) (M.Mark (S.good (sizeOf m) t (meantTally x))) (M.Refused (firstOf (markRows x m t)))
+
+-- a sum judges 2, 6, 10 and 14
+abbrev pub addRows : Modulus → ℕ → List ℕ → List ℕ → List Check
+addRows m n xs ys =
+    row (modulusFails (meant m)) 2
+    ∷ row (dimensionFails n) 6
+    ∷ row (lengthFails (length xs) (n + 1)) 10
+    ∷ row (lengthFails (length ys) (n + 1)) 10
+    ∷ row (wordsFail (sizeOf m) xs) 14
+    ∷ row (wordsFail (sizeOf m) ys) 14
+    ∷ []

@@ -1,0 +1,292 @@
+-- Laws of the leaves, and what the checks of a call leave.
+-- Assumes nothing.
+use mathlib.Core.Path.{_≡_, refl, sym, ap, ap₂, _∙_}
+use mathlib.Core.Bool.{Bool, true, false, _||_}
+use mathlib.Core.List.{List, [], _∷_, _++_}
+use Prim.Native.Nat.{ℕ, zero, suc, _+_, _-_, _*_, _≤_, _<_}
+use native.Mathlib.Numerals.{add-one}
+use native.Mathlib.Omega.{arith}
+use lib.Dec.{eqb, ltb}
+use lib.IntN.{ℤ, pos, _+ℤ_, _-ℤ_, _*ℤ_, +ℤ-idr, *ℤ-zero}
+use lib.ListN.{length, getD, take, drop, length-drop, length-append, List·getD-append, List·getD-eq-default}
+use lib.Seq.{getD-at, getD-take, getD-drop, length-take-le}
+use borrow.Author.Tests.{eq-eqb, ne-eqb, lt-leb, lt-ltb, le-ltb, ltb-true, ltb-false}
+use Rattle.scheme.specs.Numbers.{pick, residue, Cong, sumTo}
+use Rattle.scheme.specs.Lwe.{words, signed, inner, bodyOf, encrypted, phaseOf, rotated, packedPhase}
+use Rattle.scheme.specs.Codec.{decode}
+use Rattle.scheme.specs.Checks.{Check, firstOf, codecRows, codecRefusal}
+use Rattle.scheme.proofs.Residue.{residue-lt, cong-refl, cong-add, residue-cong}
+use Rattle.scheme.proofs.Sums.{sum-ext}
+use Rattle.scheme.proofs.Lwe.{cong-sub, stands}
+use Rattle.scheme.proofs.Checks.{Passes, passed, modulus-ok, length-ok}
+use Rattle.primus_reduce.specs.Ring.{meant, sizeOf, modulo}
+use Rattle.primus_reduce.specs.Dot.{dot, dotSigned}
+use Rattle.primus_reduce.specs.declared.modulus.Modulus.{Modulus}
+use Rattle.primus_encoding.specs.Answers.{codecTried, answer, encodeRows, encodeWord, encodeAnswer, decodeRows, decodeAnswer}
+use Rattle.primus_encoding.specs.declared.PlaintextEmbedding.{PlaintextEmbedding}
+use Rattle.primus_encoding.specs.declared.rounded.RoundedCodec.{RoundedCodec}
+use Rattle.primus_encoding.specs.declared.RoundedCodecAnswer.{RoundedCodecAnswer}
+use Rattle.primus_encoding.specs.declared.RoundedCodecAnswer.the-variants as C
+use Rattle.primus_encoding.specs.declared.WordAnswer.{WordAnswer}
+use Rattle.primus_encoding.specs.declared.WordAnswer.the-variants as W
+use Rattle.primus_lwe.specs.Answers.{encryptRows, encryptRefusal, phaseRows, phaseRefusal, messageRows, messageRefusal, openRows, openRefusal, packedPhaseRows}
+
+-- the word that a reduction gives stands for its number
+pub modulo-stands : {q w : ℕ} → 0 < q → (z : ℤ) → w ≡ modulo q z → Cong q (pos w) z
+modulo-stands {q} {w} h z e = rw (e ∙ plain) (stands h z)
+  where
+    plain : modulo q z ≡ residue z q
+    plain = rw (ne-eqb q 0 (λ f. omega arith))
+
+-- ---- inner products
+
+module _ (n : ℕ) (x : List ℕ) where
+  pub dot-mask : (s : List ℕ) → length x ≡ n → dot x s ≡ inner n x (words s)
+  unfolding dot inner
+  dot-mask s e = ap (λ m. sumTo m (λ i. pos (getD x i 0) *ℤ pos (getD s i 0))) e
+
+  pub dot-mask-signed : (s : List ℤ) → length x ≡ n → dotSigned x s ≡ inner n x (signed s)
+  unfolding dotSigned inner
+  dot-mask-signed s e = ap (λ m. sumTo m (λ i. pos (getD x i 0) *ℤ getD s i (pos 0))) e
+
+  -- a key has no number for the body
+  last-none : (s : ℕ → ℤ) → s n ≡ pos 0 → sumTo (n + 1) (λ i. pos (getD x i 0) *ℤ s i) ≡ sumTo n (λ i. pos (getD x i 0) *ℤ s i)
+  unfolding sumTo
+  last-none s e =
+      ap (λ m. sumTo m (λ i. pos (getD x i 0) *ℤ s i)) (add-one n)
+      ∙ ap (λ z. sumTo n (λ i. pos (getD x i 0) *ℤ s i) +ℤ z) (ap (λ z. pos (getD x n 0) *ℤ z) e ∙ *ℤ-zero (pos (getD x n 0)))
+      ∙ +ℤ-idr (sumTo n (λ i. pos (getD x i 0) *ℤ s i))
+
+  pub dot-body : (s : List ℕ) → length x ≡ n + 1 → length s ≡ n → dot x s ≡ inner n x (words s)
+  unfolding dot inner
+  dot-body s e k =
+      ap (λ m. sumTo m (λ i. pos (getD x i 0) *ℤ pos (getD s i 0))) e ∙ last-none (λ i. pos (getD s i 0)) (ap pos (List·getD-eq-default s 0 {n = n} (omega arith)))
+
+  pub dot-body-signed : (s : List ℤ) → length x ≡ n + 1 → length s ≡ n → dotSigned x s ≡ inner n x (signed s)
+  unfolding dotSigned inner
+  dot-body-signed s e k =
+      ap (λ m. sumTo m (λ i. pos (getD x i 0) *ℤ getD s i (pos 0))) e ∙ last-none (λ i. getD s i (pos 0)) (List·getD-eq-default s (pos 0) {n = n} (omega arith))
+
+-- ---- encryption and phase by the words that stand for ⟨a, s⟩ and e
+
+module _ (q n : ℕ) (h : 0 < q) (x : List ℕ) (s : ℕ → ℤ) (sum : ℕ) (I : ℤ) (ei : I ≡ inner n x s) (es : sum ≡ modulo q I) where
+  sum-stands : Cong q (pos sum) (inner n x s)
+  sum-stands = rw (← ei) (modulo-stands h I es)
+
+  pub encrypted-is : (e : ℤ) (w p : ℕ) → w ≡ modulo q e → x ++ (residue (pos sum +ℤ pos w +ℤ pos p) q ∷ []) ≡ encrypted q n x s e (pos p)
+  unfolding encrypted bodyOf
+  encrypted-is e w p f =
+      ap (λ b. x ++ (b ∷ [])) (residue-cong h (cong-add (cong-add sum-stands (modulo-stands h e f)) (cong-refl q (pos p))))
+
+  pub phase-is : {r : ℕ} → r ≡ modulo q (pos (getD x n 0) -ℤ pos sum) → r ≡ phaseOf q n x s
+  unfolding phaseOf
+  phase-is e = e ∙ rw (ne-eqb q 0 (λ f. omega arith)) (residue-cong h (cong-sub (cong-refl q (pos (getD x n 0))) sum-stands))
+
+-- two sums of words are one
+pub body-is : (q sum e p r b : ℕ) → 0 < q → r ≡ modulo q (pos sum +ℤ pos e) → b ≡ modulo q (pos r +ℤ pos p) → b ≡ residue (pos sum +ℤ pos e +ℤ pos p) q
+body-is q sum e p r b h f g = g ∙ rw (ne-eqb q 0 (λ z. omega arith)) (residue-cong h (cong-add (modulo-stands h (pos sum +ℤ pos e) f) (cong-refl q (pos p))))
+
+-- the mask and the body, word by word
+module _ (a : List ℕ) (b : ℕ) where
+  pub made-length : length (a ++ (b ∷ [])) ≡ length a + 1
+  made-length = length-append a (b ∷ [])
+
+  pub made-mask : (i : ℕ) → i < length a → getD a i 0 ≡ getD (a ++ (b ∷ [])) i 0
+  made-mask i h = sym (List·getD-append a (b ∷ []) 0 i h)
+
+  pub made-body : (i : ℕ) → i ≡ length a → b ≡ getD (a ++ (b ∷ [])) i 0
+  made-body i e = sym (getD-at a b [] 0 i (sym e))
+
+-- ---- what the checks leave
+
+pub record Encryptable (m : Modulus) (n len : ℕ) (a : List ℕ) (es : List ℤ) (room : ℕ) : Type 0 where
+  pub positive : 0 < sizeOf m
+  pub key : len ≡ n
+  pub mask : length a ≡ n
+  pub fits : room ≡ length a + 1
+  pub one : 0 < length es
+
+pub encryptable : (m : Modulus) (n len : ℕ) (bad : Bool) (a : List ℕ) (es : List ℤ) (E p room : ℕ) → encryptRefusal m n len bad a es E p room ≡ 0
+    → Encryptable m n len a es room
+unfolding encryptRefusal
+encryptable m n len bad a es E p room e =
+    let (two, (six, (nine, (eleven, (masks, (errors, rest)))))) = passed (encryptRows m n len bad a es E p room) tt e in
+    let r : room ≡ n + 1 = length-ok _ _ eleven in
+    let k : length a ≡ n = length-ok _ _ masks in
+    let o : length es ≡ 1 = length-ok _ _ errors in
+    record { positive = omega (arith, modulus-ok 32 (meant m) (omega arith) two); key = length-ok _ _ nine; mask = k; fits = omega arith; one = omega arith }
+
+pub record Phasable (m : Modulus) (n len : ℕ) (x : List ℕ) : Type 0 where
+  pub positive : 0 < sizeOf m
+  pub key : len ≡ n
+  pub whole : length x ≡ n + 1
+
+pub phasable : (m : Modulus) (n len : ℕ) (bad : Bool) (x : List ℕ) → phaseRefusal m n len bad x ≡ 0 → Phasable m n len x
+unfolding phaseRefusal
+phasable m n len bad x e =
+    let (two, (six, (nine, (ten, rest)))) = passed (phaseRows m n len bad x) tt e in
+    record { positive = omega (arith, modulus-ok 32 (meant m) (omega arith) two); key = length-ok _ _ nine; whole = length-ok _ _ ten }
+
+-- ---- the codec, whose checks have passed
+
+none-fails : (cs : List Check) → Passes cs → firstOf cs ≡ 0
+unfolding firstOf
+none-fails [] p = refl
+none-fails (c ∷ cs) p = rw (p .0) (none-fails cs (p .1))
+
+abbrev codecOf : ℕ → Modulus → RoundedCodec
+codecOf t m = record { «plaintext_modulus» = t; «ciphertext_modulus» = m }
+
+module _ (R t : ℕ) (m : Modulus) (tried : RoundedCodecAnswer) (z : R ≡ 0) (e : tried ≡ codecTried R t m) where
+  accepted : tried ≡ C.Accepted (codecOf t m)
+  accepted = e ∙ plain
+    where
+      plain : codecTried R t m ≡ C.Accepted (codecOf t m)
+      plain = rw (eq-eqb R 0 z)
+
+  pub codec-made : (codec : RoundedCodec) → tried ≡ C.Accepted codec → codec ≡ codecOf t m
+  codec-made codec f = let g : C.Accepted codec ≡ C.Accepted (codecOf t m) = sym f ∙ accepted in cc
+
+  pub codec-not : (r : ℕ) → tried ≡ C.Refused r → ⊥
+  codec-not r f = let g : C.Refused r ≡ C.Accepted (codecOf t m) = sym f ∙ accepted in let k : _≡_ {A = ℕ} 0 1 = cc in omega arith
+
+module _ (R x : ℕ) (word : WordAnswer) (z : R ≡ 0) (e : word ≡ answer R x) where
+  given-word : word ≡ W.Word x
+  given-word = e ∙ plain
+    where
+      plain : answer R x ≡ W.Word x
+      plain = rw (eq-eqb R 0 z)
+
+  word-made : (p : ℕ) → word ≡ W.Word p → p ≡ x
+  word-made p f = let g : W.Word p ≡ W.Word x = sym f ∙ given-word in cc
+
+  word-not : (r : ℕ) → word ≡ W.Refused r → ⊥
+  word-not r f = let g : W.Refused r ≡ W.Word x = sym f ∙ given-word in let k : _≡_ {A = ℕ} 0 1 = cc in omega arith
+
+module _ (t : ℕ) (m : Modulus) (x : ℕ) (codec : RoundedCodec) (k : codec ≡ codecOf t m) (word : WordAnswer) where
+  module _ (g : PlaintextEmbedding) (z : firstOf (encodeRows t m x) ≡ 0) (e : word ≡ encodeAnswer (codec .«plaintext_modulus») (codec .«ciphertext_modulus») g x) where
+    same : word ≡ encodeAnswer t m g x
+    same = e ∙ ap (λ c. encodeAnswer (c .«plaintext_modulus») (c .«ciphertext_modulus») g x) k
+
+    pub encode-made : (p : ℕ) → word ≡ W.Word p → p ≡ encodeWord g (sizeOf m) t x
+    encode-made p f = word-made _ _ word z same p f
+
+    pub encode-not : (r : ℕ) → word ≡ W.Refused r → ⊥
+    encode-not r f = word-not _ _ word z same r f
+
+  module _ (z : firstOf (decodeRows t m x) ≡ 0) (e : word ≡ decodeAnswer (codec .«plaintext_modulus») (codec .«ciphertext_modulus») x) where
+    same-decode : word ≡ decodeAnswer t m x
+    same-decode = e ∙ ap (λ c. decodeAnswer (c .«plaintext_modulus») (c .«ciphertext_modulus») x) k
+
+    pub decode-made : (p : ℕ) → word ≡ W.Word p → p ≡ decode (sizeOf m) t x
+    decode-made p f = word-made _ _ word z same-decode p f
+
+    pub decode-not : (r : ℕ) → word ≡ W.Refused r → ⊥
+    decode-not r f = word-not _ _ word z same-decode r f
+
+-- ---- what the checks of a message leave
+
+pub record Messageable (m : Modulus) (n t len : ℕ) (a : List ℕ) (es : List ℤ) (x room : ℕ) : Type 0 where
+  pub plain : Encryptable m n len a es room
+  pub codec : codecRefusal t (meant m) ≡ 0
+  pub message : firstOf (encodeRows t m x) ≡ 0
+
+pub messageable : (m : Modulus) (n t len : ℕ) (bad : Bool) (a : List ℕ) (es : List ℤ) (E x room : ℕ) → messageRefusal m n t len bad a es E x room ≡ 0
+    → Messageable m n t len a es x room
+unfolding messageRefusal
+messageable m n t len bad a es E x room e =
+    let (two, (six, (seven, (eight, (nine, (eleven, (masks, (errors, (thirteen, (key, (mask, (fifteen, (sixteen, end))))))))))))) = passed (messageRows m n t len bad a es E x room) tt e in
+    let r : room ≡ n + 1 = length-ok _ _ eleven in
+    let k : length a ≡ n = length-ok _ _ masks in
+    let o : length es ≡ 1 = length-ok _ _ errors in
+    record {
+      plain =
+          record { positive = omega (arith, modulus-ok 32 (meant m) (omega arith) two); key = length-ok _ _ nine; mask = k; fits = omega arith; one = omega arith };
+      codec = none-fails (codecRows t (meant m)) (two, (seven, (eight, tt)));
+      message = none-fails (encodeRows t m x) (two, (seven, (eight, (sixteen, tt))));
+    }
+
+pub record Openable (m : Modulus) (n t len : ℕ) (x : List ℕ) : Type 0 where
+  pub phase : Phasable m n len x
+  pub codec : codecRefusal t (meant m) ≡ 0
+  pub word : (p : ℕ) → p < sizeOf m → firstOf (decodeRows t m p) ≡ 0
+
+pub openable : (m : Modulus) (n t len : ℕ) (bad : Bool) (x : List ℕ) → openRefusal m n t len bad x ≡ 0 → Openable m n t len x
+unfolding openRefusal
+openable m n t len bad x e =
+    let (two, (six, (seven, (eight, (nine, (ten, rest)))))) = passed (openRows m n t len bad x) tt e in
+    record {
+      phase = record { positive = omega (arith, modulus-ok 32 (meant m) (omega arith) two); key = length-ok _ _ nine; whole = length-ok _ _ ten };
+      codec = none-fails (codecRows t (meant m)) (two, (seven, (eight, tt)));
+      word = λ p h. none-fails (decodeRows t m p) (two, (seven, (eight, (lt-leb (sizeOf m) p h, tt))));
+    }
+
+pub phase-below : (q n : ℕ) (x : List ℕ) (s : ℕ → ℤ) (p : ℕ) → 0 < q → p ≡ phaseOf q n x s → p < q
+unfolding phaseOf
+phase-below q n x s p h e = rw e (residue-lt (pos (getD x n 0) -ℤ inner n x s) q h)
+
+-- ---- packed ciphertexts
+
+-- a part of the mask and a part of the key
+pub dot-prefix : (a s : List ℕ) (m i k : ℕ) → m ≤ length a → m ≤ k → dot (take m a) (take k (drop i s)) ≡ sumTo m (λ j. pos (getD a j 0) *ℤ words s (j + i))
+unfolding dot
+dot-prefix a s m i k h g =
+    ap (λ z. sumTo z (λ j. pos (getD (take m a) j 0) *ℤ pos (getD (take k (drop i s)) j 0))) (length-take-le m a h)
+    ∙ sum-ext m _ _ (λ j l. ap₂ (λ (x : ℕ) (y : ℕ). pos x *ℤ pos y) (getD-take m a j 0 l) (getD-take k (drop i s) j 0 (omega arith) ∙ getD-drop i s j 0 ∙ ap (λ z. getD s z 0) (turned i j)))
+  where
+    turned : (i j : ℕ) → i + j ≡ j + i
+    turned i j = omega arith
+
+pub dot-suffix : (a s : List ℕ) (m i w : ℕ) → w ≡ i → m + i ≤ length a → dot (take w (drop m a)) (take i s) ≡ sumTo i (λ k. pos (getD a (m + k) 0) *ℤ words s k)
+unfolding dot
+dot-suffix a s m i w e h =
+    ap (λ z. sumTo z (λ j. pos (getD (take w (drop m a)) j 0) *ℤ pos (getD (take i s) j 0))) (length-take-le w (drop m a) (omega (arith, length-drop m a)) ∙ e)
+    ∙ sum-ext i _ _ (λ j l. ap₂ (λ (x : ℕ) (y : ℕ). pos x *ℤ pos y) (getD-take w (drop m a) j 0 (omega arith) ∙ getD-drop m a j 0) (getD-take i s j 0 l))
+
+module _ (q n i : ℕ) (h : 0 < q) (a : List ℕ) (s : ℕ → ℤ) where
+  pub rotated-is : (A B : ℤ) (x y r : ℕ) → A ≡ sumTo (n - i) (λ j. pos (getD a j 0) *ℤ s (j + i)) → B ≡ sumTo i (λ k. pos (getD a (n - i + k) 0) *ℤ s k)
+      → x ≡ modulo q A → y ≡ modulo q B → r ≡ modulo q (pos x -ℤ pos y) → r ≡ modulo q (rotated n a s i)
+  unfolding rotated
+  rotated-is A B x y r ea eb ex ey e =
+      e ∙ ap (λ z. pick (eqb q 0) 0 z) (residue-cong h (cong-sub first second))
+    where
+      first : Cong q (pos x) (sumTo (n - i) (λ j. pos (getD a j 0) *ℤ s (j + i)))
+      first = rw (← ea) (modulo-stands h A ex)
+
+      second : Cong q (pos y) (sumTo i (λ k. pos (getD a (n - i + k) 0) *ℤ s k))
+      second = rw (← eb) (modulo-stands h B ey)
+
+  pub packed-is : (x : ℕ) {r : ℕ} → x ≡ modulo q (rotated n a s i) → r ≡ modulo q (pos (getD a (n + i) 0) -ℤ pos x) → r ≡ packedPhase q n a s i
+  unfolding packedPhase
+  packed-is x ex e = e ∙ rw (ne-eqb q 0 (λ f. omega arith)) (residue-cong h (cong-sub (cong-refl q (pos (getD a (n + i) 0))) (modulo-stands h (rotated n a s i) ex)))
+
+-- n + n < len, told from n < len − n
+pub bodies-above : (len n : ℕ) → n ≤ len → ltb n (len - n) ≡ (ltb len n || ltb (n + n) len)
+bodies-above len n h = go (ltb n (len - n)) refl
+  where
+    go : (b : Bool) → ltb n (len - n) ≡ b → b ≡ (ltb len n || ltb (n + n) len)
+    go true e = rw (le-ltb len n h, lt-ltb (n + n) len (omega (arith, ltb-true n (len - n) e)))
+    go false e = rw (le-ltb len n h, le-ltb (n + n) len (omega (arith, ltb-false n (len - n) e)))
+
+pub record PhasablePacked (m : Modulus) (n len words room : ℕ) : Type 0 where
+  pub positive : 0 < sizeOf m
+  pub key : len ≡ n
+  pub bodies : room ≤ n
+  pub whole : words ≡ n + room
+  pub count : room ≡ words - n
+
+pub phasable-packed : (m : Modulus) (n : ℕ) (s x : List ℕ) (room : ℕ) → firstOf (packedPhaseRows m n s x room) ≡ 0 → PhasablePacked m n (length s) (length x) room
+phasable-packed m n s x room e =
+    let (two, (six, (nine, (ten, (eleven, rest))))) = passed (packedPhaseRows m n s x room) tt e in
+    let l : n ≤ length x = ltb-false (length x) n (or-left (ltb (length x) n) (ltb (n + n) (length x)) ten) in
+    let u : length x ≤ n + n = ltb-false (n + n) (length x) (or-right (ltb (length x) n) (ltb (n + n) (length x)) ten) in
+    let c : room ≡ length x - n = length-ok _ _ eleven in
+    record { positive = omega (arith, modulus-ok 32 (meant m) (omega arith) two); key = length-ok _ _ nine; bodies = omega arith; whole = omega arith; count = c }
+  where
+    or-left : (a b : Bool) → (a || b) ≡ false → a ≡ false
+    or-left true b e = e
+    or-left false b e = refl
+
+    or-right : (a b : Bool) → (a || b) ≡ false → b ≡ false
+    or-right true b e = let z : true ≡ false = e in cc
+    or-right false b e = e

@@ -1,0 +1,40 @@
+use Rattle.checks.proofs.Table.{none, _▹_, first}
+use mathlib.Core.Path.{refl}
+use Rattle.primus_lwe.specs.Answers.{encryptRows, encryptRefusal}
+use Rattle.primus_lwe.proofs.secret_key.borrowed.encrypt_refusal.Statement.{statement}
+use Rattle.primus_lwe.proofs.secret_key.borrowed.encrypt_refusal.Tie as tie
+
+returns : tie.Need-returns
+unfolding encryptRefusal
+returns c =
+    let r10 = c .before .before in
+    let r9 = r10 .before .before in
+    let r8 = r9 .before .before in
+    let r7 = r8 .before in
+    let r6 = r7 .before .before in
+    let r5 = r6 .before .before in
+    let r4 = r5 .before .before in
+    let r3 = r4 .before .before in
+    let r2 = r3 .before .before in
+    let r1 = r2 .before .before in
+    let a = r1 .before .before .before .args in
+    first (encryptRows (a .modulus) (a .n) (a .key-len) (a .key-refused) (a .mask .now) (a .errors .now) (a .bound) (a .plaintext) (a .room)) tt
+    (none
+    ▹ (r1 .refuse .ensures, r1 .before .modulus-refused .ensures)
+    ▹ (r2 .refuse2 .ensures, r2 .before .dimension-refused .ensures)
+    ▹ (r3 .refuse3 .ensures, r3 .before .length-differs .ensures)
+    ▹ (r4 .refuse4 .ensures, r4 .before .ciphertext-differs .ensures)
+    ▹ (r5 .refuse5 .ensures, r5 .before .length-differs2 .ensures)
+    ▹ (r6 .refuse6 .ensures, r6 .before .length-differs3 .ensures)
+    ▹ (r7 .refuse7 .ensures, r7 .before .bound-refused .ensures)
+    ▹ (r8 .refuse8 .ensures, refl)
+    ▹ (r9 .refuse9 .ensures, r9 .before .words-refused .ensures)
+    ▹ (r10 .refuse10 .ensures, r10 .before .word-refused .ensures)
+    ▹ (c .refuse11 .ensures, c .before .errors-refused .ensures))
+
+pub encrypt-refusal-spec : {M : Type 1} → statement M
+encrypt-refusal-spec =
+    tie.close
+    (tie.spec (λ c κs. tt) (λ c κs. tt) (λ c κs. tt) (λ c κs. tt) (λ c κs. tt) (λ c κs. tt) (λ c κs. tt) (λ c κs. tt) (λ c κs. tt) (λ c κs. tt)
+    (λ c κs. tt) (λ c κs. tt) (λ c κs. tt) (λ c κs. tt) (λ c κs. tt) (λ c κs. tt) (λ c κs. tt) (λ c κs. tt) (λ c κs. tt) (λ c κs. tt)
+    (λ c κs. tt) returns)

@@ -1,0 +1,14 @@
+// LWE encryption over words of 32 bits. Random masks and errors are lent.
+mod secret_key;
+
+pub use secret_key::MessageAnswer;
+pub use secret_key::PhaseAnswer;
+pub use secret_key::decrypt_message;
+pub use secret_key::decrypt_message_signed;
+pub use secret_key::decrypt_phase;
+pub use secret_key::decrypt_phase_packed_to;
+pub use secret_key::decrypt_phase_signed;
+pub use secret_key::encrypt_encoded_signed_to;
+pub use secret_key::encrypt_encoded_to;
+pub use secret_key::encrypt_message_signed_to;
+pub use secret_key::encrypt_message_to;

@@ -1,0 +1,83 @@
+// Packed ciphertexts: n shared mask words, then at most n bodies. Body i uses the mask rotated right by i, its first i words negated.
+ghost use mathlib.Core.Path.{_≡_};
+ghost use Prim.Native.Nat.{_+_, _-_, _<_, _≤_};
+ghost use lib.ListN.{length};
+ghost use Rattle.scheme.specs.Numbers.{tabulate};
+ghost use Rattle.scheme.specs.Lwe.{words, rotated, packedPhase};
+ghost use Rattle.scheme.specs.Checks.{firstOf, Answers};
+ghost use Rattle.primus_reduce.specs.Ring.{sizeOf, modulo};
+ghost use Rattle.primus_lwe.specs.Answers.{packedFails, packedPhaseRows};
+use primus_lattice::dimension_refused;
+use primus_reduce::Modulus;
+
+// Σ over j < n−i of a_j·s_(j+i), minus Σ over j ≥ n−i of a_j·s_(j−n+i).
+fn rotated_mask_product(
+    a: &[u32],
+    secret: &[u32],
+    index: usize,
+    dimension: usize,
+    modulus: Modulus,
+) -> u32
+    requires { ⌜ (index < dimension) × (dimension ≤ length (now a)) × (length (now secret) ≡ dimension) × (0 < sizeOf modulus) ⌝ }
+    ensures { λ r. ⌜ r ≡ modulo (sizeOf modulus) (rotated dimension (now (a .entry)) (words (now (secret .entry))) index) ⌝ }
+{
+    let split = dimension - index;
+    let prefix = modulus.reduce_dot_product(&a[..split], &secret[index..]);
+    let suffix = modulus.reduce_dot_product(&a[split..dimension], &secret[..index]);
+    modulus.reduce_sub(prefix, suffix)
+}
+
+// Phase i is body i less its mask product.
+fn phases(out: &mut [u32], input: &[u32], secret: &[u32], dimension: usize, modulus: Modulus)
+    requires { ⌜ (length (now out) ≤ dimension) × (length (now input) ≡ dimension + length (now out)) × (length (now secret) ≡ dimension) × (0 < sizeOf modulus) ⌝ }
+    ensures { λ _. ⌜ now (out .exit) ≡ tabulate (length (now (out .entry))) (packedPhase (sizeOf modulus) dimension (now (input .entry)) (words (now (secret .entry)))) ⌝ }
+{
+    let mut i = 0;
+    while i < out.len() {
+        let product = rotated_mask_product(input, secret, i, dimension, modulus);
+        out[i] = modulus.reduce_sub(input[dimension + i], product);
+        i += 1;
+    }
+}
+
+// 10: fewer than n words, or more than n bodies. No sum: it could overflow.
+fn packed_refused(len: usize, dimension: usize) -> bool
+    ensures { λ r. ⌜ r ≡ packedFails len dimension ⌝ }
+{
+    len < dimension || dimension < len - dimension
+}
+
+// The number of bodies, or 0 where there are fewer than n words.
+fn body_count(len: usize, dimension: usize) -> usize
+    ensures { λ r. ⌜ r ≡ len - dimension ⌝ }
+{
+    if len < dimension {
+        return 0;
+    }
+    len - dimension
+}
+
+// The phase of each body. Refuses by 2, 6, 9, 10, 11, 14.
+pub fn decrypt_phase_packed_to(
+    modulus: Modulus,
+    n: usize,
+    secret: &[u32],
+    input: &[u32],
+    out: &mut [u32],
+) -> u32
+    ensures { λ r. ⌜ Answers (firstOf (packedPhaseRows modulus n (now (secret .entry)) (now (input .entry)) (length (now (out .entry))))) (tabulate (length (now (input .entry)) - n) (packedPhase (sizeOf modulus) n (now (input .entry)) (words (now (secret .entry))))) (now (out .entry)) r (now (out .exit)) ⌝ }
+{
+    let r = checks::refuse(0, checks::modulus_refused(modulus), 2);
+    let r = checks::refuse(r, dimension_refused(n), 6);
+    let r = checks::refuse(r, checks::length_differs(secret.len(), n), 9);
+    let r = checks::refuse(r, packed_refused(input.len(), n), 10);
+    let count = body_count(input.len(), n);
+    let r = checks::refuse(r, checks::length_differs(out.len(), count), 11);
+    let r = checks::refuse(r, checks::words_refused(modulus, secret), 14);
+    let r = checks::refuse(r, checks::words_refused(modulus, input), 14);
+    if r != 0 {
+        return r;
+    }
+    phases(out, input, secret, n, modulus);
+    0
+}
