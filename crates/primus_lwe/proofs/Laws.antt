@@ -1,7 +1,7 @@
 -- Laws of the leaves, and what the checks of a call leave.
 -- Assumes nothing.
 use mathlib.Core.Path.{_≡_, refl, sym, ap, ap₂, _∙_}
-use mathlib.Core.Bool.{Bool, true, false, _||_}
+use mathlib.Core.Bool.{Bool, true, false, not, _||_}
 use mathlib.Core.List.{List, [], _∷_, _++_}
 use Prim.Native.Nat.{ℕ, zero, suc, _+_, _-_, _*_, _≤_, _<_}
 use native.Mathlib.Numerals.{add-one}
@@ -9,13 +9,14 @@ use native.Mathlib.Omega.{arith}
 use lib.Dec.{eqb, ltb}
 use lib.IntN.{ℤ, pos, _+ℤ_, _-ℤ_, _*ℤ_, +ℤ-idr, *ℤ-zero}
 use lib.ListN.{length, getD, take, drop, length-drop, length-append, List·getD-append, List·getD-eq-default}
-use lib.Seq.{getD-at, getD-take, getD-drop, length-take-le}
-use borrow.Author.Tests.{eq-eqb, ne-eqb, lt-leb, lt-ltb, le-ltb, ltb-true, ltb-false}
-use Rattle.scheme.specs.Numbers.{pick, residue, Cong, sumTo}
-use Rattle.scheme.specs.Lwe.{words, signed, inner, bodyOf, encrypted, phaseOf, rotated, packedPhase}
+use lib.Seq.{getD-at, getD-append-add, getD-take, getD-drop, length-take-le}
+use borrow.Author.Tests.{eqb-true, eqb-false, eq-eqb, ne-eqb, lt-leb, lt-ltb, le-ltb, ltb-true, ltb-false}
+use Rattle.scheme.specs.Numbers.{pick, residue, Cong, sumTo, tabulate}
+use Rattle.scheme.specs.Lwe.{words, signed, inner, bodyOf, encrypted, phaseOf, rotated, packed, packedPhase}
 use Rattle.scheme.specs.Codec.{decode}
-use Rattle.scheme.specs.Checks.{Check, firstOf, codecRows, codecRefusal}
-use Rattle.scheme.proofs.Residue.{residue-lt, cong-refl, cong-add, residue-cong}
+use Rattle.scheme.specs.Checks.{Check, firstOf, codecRows, codecRefusal, lengthFails}
+use Rattle.scheme.proofs.Residue.{residue-lt, cong-refl, cong-of-eq, cong-trans, cong-add, residue-cong}
+use Rattle.scheme.proofs.Lists.{length-tabulate, getD-tabulate}
 use Rattle.scheme.proofs.Sums.{sum-ext}
 use Rattle.scheme.proofs.Lwe.{cong-sub, stands}
 use Rattle.scheme.proofs.Checks.{Passes, passed, modulus-ok, length-ok}
@@ -29,7 +30,7 @@ use Rattle.primus_encoding.specs.declared.RoundedCodecAnswer.{RoundedCodecAnswe
 use Rattle.primus_encoding.specs.declared.RoundedCodecAnswer.the-variants as C
 use Rattle.primus_encoding.specs.declared.WordAnswer.{WordAnswer}
 use Rattle.primus_encoding.specs.declared.WordAnswer.the-variants as W
-use Rattle.primus_lwe.specs.Answers.{encryptRows, encryptRefusal, phaseRows, phaseRefusal, messageRows, messageRefusal, openRows, openRefusal, packedPhaseRows}
+use Rattle.primus_lwe.specs.Answers.{encryptRows, encryptRefusal, phaseRows, phaseRefusal, messageRows, messageRefusal, openRows, openRefusal, packedPhaseRows, Packable, packedRows, packedRefusal}
 
 -- the word that a reduction gives stands for its number
 pub modulo-stands : {q w : ℕ} → 0 < q → (z : ℤ) → w ≡ modulo q z → Cong q (pos w) z
@@ -290,3 +291,56 @@ phasable-packed m n s x room e =
     or-right : (a b : Bool) → (a || b) ≡ false → b ≡ false
     or-right true b e = let z : true ≡ false = e in cc
     or-right false b e = e
+
+-- word k of a packed ciphertext
+module _ (q c : ℕ) (a : List ℕ) (s e p : ℕ → ℤ) (k : ℕ) where
+  pub packed-mask : k < length a → getD a k 0 ≡ getD (packed q (length a) c a s e p) k 0
+  unfolding packed
+  packed-mask h = sym (List·getD-append a _ 0 k h)
+
+  pub packed-body : (x w y : ℕ) {r : ℕ} → 0 < q → length a ≤ k → k - length a < c → x ≡ modulo q (rotated (length a) a s (k - length a)) → w ≡ modulo q (e (k - length a))
+      → y ≡ modulo q (pos x +ℤ pos w) → (b : ℕ) → pos b ≡ p (k - length a) → r ≡ modulo q (pos y +ℤ pos b) → r ≡ getD (packed q (length a) c a s e p) k 0
+  unfolding packed
+  packed-body x w y h l m ex ew ey b eb er =
+      er
+      ∙ rw (ne-eqb q 0 (λ f. omega arith)) (residue-cong h (cong-add (cong-trans (modulo-stands h (pos x +ℤ pos w) ey) (cong-add (modulo-stands h _ ex) (modulo-stands h _ ew))) (cong-of-eq q eb)))
+      ∙ sym (ap (λ z. getD (a ++ tabulate c body) z 0) place ∙ getD-append-add a (tabulate c body) (k - length a) 0 ∙ getD-tabulate c body (k - length a) m)
+    where
+      body : ℕ → ℕ
+      body i = residue (rotated (length a) a s i +ℤ e i +ℤ p i) q
+
+      place : k ≡ length a + (k - length a)
+      place = omega arith
+
+  pub packed-length : length (packed q (length a) c a s e p) ≡ length a + c
+  unfolding packed
+  packed-length = length-append a _ ∙ ap (λ z. length a + z) (length-tabulate c _)
+
+pub room-short : (len n c : ℕ) → len < n → true ≡ lengthFails len (n + c)
+room-short len n c h = sym (ap not (ne-eqb len (n + c) (λ z. omega arith)))
+
+pub room-rest : (len n c : ℕ) → n ≤ len → not (eqb (len - n) c) ≡ lengthFails len (n + c)
+room-rest len n c h = ap not (go (eqb (len - n) c) refl)
+  where
+    go : (b : Bool) → eqb (len - n) c ≡ b → b ≡ eqb len (n + c)
+    go true e = sym (eq-eqb len (n + c) (omega (arith, eqb-true (len - n) c e)))
+    go false e = sym (ne-eqb len (n + c) (λ z. eqb-false (len - n) c e (omega arith)))
+
+pub record Packed (m : Modulus) (n : ℕ) (s a : List ℕ) (es : List ℤ) (ps : List ℕ) (room : ℕ) : Type 0 where
+  pub able : Packable (sizeOf m) (length a) (length s) (length es) (length ps)
+  pub mask : length a ≡ n
+  pub fits : room ≡ length a + length ps
+
+pub packable : (m : Modulus) (n : ℕ) (s a : List ℕ) (es : List ℤ) (E : ℕ) (ps : List ℕ) (room : ℕ) → packedRefusal m n s a es E ps room ≡ 0 → Packed m n s a es ps room
+unfolding packedRefusal
+packable m n s a es E ps room e =
+    let (two, (six, (nine, (ten, (eleven, (masks, (errors, rest))))))) = passed (packedRows m n s a es E ps room) tt e in
+    let t : length ps ≤ n = ltb-false n (length ps) ten in
+    let f : length s ≡ n = length-ok _ _ nine in
+    let r : room ≡ n + length ps = length-ok _ _ eleven in
+    let k : length a ≡ n = length-ok _ _ masks in
+    record {
+      able = record { positive = omega (arith, modulus-ok 32 (meant m) (omega arith) two); keys = omega arith; each = length-ok _ _ errors; most = omega arith };
+      mask = k;
+      fits = omega arith;
+    }

@@ -1,7 +1,8 @@
 -- The refusals of the calls under a key of `len` numbers, of which check 14 says `bad`; and their answers.
 use mathlib.Core.Bool.{Bool, _||_}
 use mathlib.Core.List.{List, [], _∷_}
-use Prim.Native.Nat.{ℕ, _+_, _-_}
+use mathlib.Core.Path.{_≡_}
+use Prim.Native.Nat.{ℕ, _+_, _-_, _<_, _≤_}
 use lib.Dec.{eqb, ltb}
 use lib.IntN.{ℤ}
 use lib.ListN.{length}
@@ -108,3 +109,30 @@ packedPhaseRows m n s x room =
     ∷ row (wordsFail (sizeOf m) s) 14
     ∷ row (wordsFail (sizeOf m) x) 14
     ∷ []
+
+-- what the innermost packed encryption asks, of the lengths of mask, key, errors and plaintexts
+pub record Packable (q mask key errors count : ℕ) : Type 0 where
+  pub positive : 0 < q
+  pub keys : key ≡ mask
+  pub each : errors ≡ count
+  pub most : count ≤ mask
+
+-- a packed encryption of the words ps
+abbrev pub packedRows : Modulus → ℕ → List ℕ → List ℕ → List ℤ → ℕ → List ℕ → ℕ → List Check
+packedRows m n s a es E ps room =
+    row (modulusFails (meant m)) 2
+    ∷ row (dimensionFails n) 6
+    ∷ row (lengthFails (length s) n) 9
+    ∷ row (ltb n (length ps)) 10
+    ∷ row (lengthFails room (n + length ps)) 11
+    ∷ row (lengthFails (length a) n) 12
+    ∷ row (lengthFails (length es) (length ps)) 12
+    ∷ row (boundFails (sizeOf m) E) 13
+    ∷ row (wordsFail (sizeOf m) s) 14
+    ∷ row (wordsFail (sizeOf m) a) 14
+    ∷ row (wordsFail (sizeOf m) ps) 14
+    ∷ row (errorsFail E es) 15
+    ∷ []
+
+unfoldable pub packedRefusal : Modulus → ℕ → List ℕ → List ℕ → List ℤ → ℕ → List ℕ → ℕ → ℕ
+packedRefusal m n s a es E ps room = firstOf (packedRows m n s a es E ps room)

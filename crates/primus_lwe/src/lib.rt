@@ -8,6 +8,7 @@ pub use secret_key::decrypt_message_signed;
 pub use secret_key::decrypt_phase;
 pub use secret_key::decrypt_phase_packed_to;
 pub use secret_key::decrypt_phase_signed;
+pub use secret_key::encrypt_encoded_packed_to;
 pub use secret_key::encrypt_encoded_signed_to;
 pub use secret_key::encrypt_encoded_to;
 pub use secret_key::encrypt_message_signed_to;

@@ -18,12 +18,12 @@ pub enum PhaseAnswer {
     Refused(u32),
 }
 
-// The lent error, as a residue.
-pub(crate) fn error_residue(errors: &[i32], modulus: Modulus) -> u32
-    requires { ⌜ 0 < length (now errors) ⌝ }
-    ensures { λ r. ⌜ r ≡ modulo (sizeOf modulus) (getD (now (errors .entry)) 0 (pos 0)) ⌝ }
+// Lent error i, as a residue.
+pub(crate) fn error_residue(errors: &[i32], i: usize, modulus: Modulus) -> u32
+    requires { ⌜ i < length (now errors) ⌝ }
+    ensures { λ r. ⌜ r ≡ modulo (sizeOf modulus) (getD (now (errors .entry)) i (pos 0)) ⌝ }
 {
-    let e = errors[0];
+    let e = errors[i];
     modulus.reduce_signed(e)
 }
 
@@ -111,7 +111,7 @@ pub fn encrypt_encoded_to(
     if r != 0 {
         return r;
     }
-    let error = error_residue(errors, modulus);
+    let error = error_residue(errors, 0, modulus);
     let sum = modulus.reduce_dot_product(mask, secret);
     encrypt_mask_body(out, mask, modulus, sum, error, plaintext);
     0
@@ -145,7 +145,7 @@ pub fn encrypt_encoded_signed_to(
     if r != 0 {
         return r;
     }
-    let error = error_residue(errors, modulus);
+    let error = error_residue(errors, 0, modulus);
     let sum = modulus.reduce_dot_product_signed(mask, secret);
     encrypt_mask_body(out, mask, modulus, sum, error, plaintext);
     0

@@ -126,7 +126,7 @@ pub fn encrypt_message_to(
         return r;
     }
     let plaintext = encoding(plaintext_modulus, modulus, message, embedding);
-    let error = borrowed::error_residue(errors, modulus);
+    let error = borrowed::error_residue(errors, 0, modulus);
     let sum = modulus.reduce_dot_product(mask, secret);
     borrowed::encrypt_mask_body(out, mask, modulus, sum, error, plaintext);
     0
@@ -164,7 +164,7 @@ pub fn encrypt_message_signed_to(
         return r;
     }
     let plaintext = encoding(plaintext_modulus, modulus, message, embedding);
-    let error = borrowed::error_residue(errors, modulus);
+    let error = borrowed::error_residue(errors, 0, modulus);
     let sum = modulus.reduce_dot_product_signed(mask, secret);
     borrowed::encrypt_mask_body(out, mask, modulus, sum, error, plaintext);
     0

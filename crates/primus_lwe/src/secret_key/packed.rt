@@ -1,12 +1,13 @@
 // Packed ciphertexts: n shared mask words, then at most n bodies. Body i uses the mask rotated right by i, its first i words negated.
 ghost use mathlib.Core.Path.{_≡_};
 ghost use Prim.Native.Nat.{_+_, _-_, _<_, _≤_};
-ghost use lib.ListN.{length};
+ghost use lib.ListN.{length, getD};
 ghost use Rattle.scheme.specs.Numbers.{tabulate};
-ghost use Rattle.scheme.specs.Lwe.{words, rotated, packedPhase};
-ghost use Rattle.scheme.specs.Checks.{firstOf, Answers};
+ghost use Rattle.scheme.specs.Lwe.{words, signed, rotated, packed, packedPhase};
+ghost use Rattle.scheme.specs.Checks.{firstOf, lengthFails, Answers};
 ghost use Rattle.primus_reduce.specs.Ring.{sizeOf, modulo};
-ghost use Rattle.primus_lwe.specs.Answers.{packedFails, packedPhaseRows};
+ghost use Rattle.primus_lwe.specs.Answers.{Packable, packedRefusal, packedFails, packedPhaseRows};
+use crate::secret_key::borrowed;
 use primus_lattice::dimension_refused;
 use primus_reduce::Modulus;
 
@@ -38,6 +39,118 @@ fn phases(out: &mut [u32], input: &[u32], secret: &[u32], dimension: usize, modu
         out[i] = modulus.reduce_sub(input[dimension + i], product);
         i += 1;
     }
+}
+
+// Word k of a packed ciphertext: a mask word, or body k − n, its mask product plus error and plaintext.
+fn packed_word(
+    mask: &[u32],
+    secret: &[u32],
+    errors: &[i32],
+    plaintexts: &[u32],
+    k: usize,
+    modulus: Modulus,
+) -> u32
+    requires { ⌜ Packable (sizeOf modulus) (length (now mask)) (length (now secret)) (length (now errors)) (length (now plaintexts)) × (k < length (now mask) + length (now plaintexts)) ⌝ }
+    ensures { λ r. ⌜ r ≡ getD (packed (sizeOf modulus) (length (now (mask .entry))) (length (now (plaintexts .entry))) (now (mask .entry)) (words (now (secret .entry))) (signed (now (errors .entry))) (words (now (plaintexts .entry)))) k 0 ⌝ }
+{
+    let n = mask.len();
+    if k < n {
+        return mask[k];
+    }
+    let i = k - n;
+    let product = rotated_mask_product(mask, secret, i, n, modulus);
+    let error = borrowed::error_residue(errors, i, modulus);
+    let noisy = modulus.reduce_add(product, error);
+    modulus.reduce_add(noisy, plaintexts[i])
+}
+
+fn write_packed(
+    out: &mut [u32],
+    mask: &[u32],
+    secret: &[u32],
+    errors: &[i32],
+    plaintexts: &[u32],
+    modulus: Modulus,
+)
+    requires { ⌜ Packable (sizeOf modulus) (length (now mask)) (length (now secret)) (length (now errors)) (length (now plaintexts)) × (length (now out) ≡ length (now mask) + length (now plaintexts)) ⌝ }
+    ensures { λ _. ⌜ now (out .exit) ≡ packed (sizeOf modulus) (length (now (mask .entry))) (length (now (plaintexts .entry))) (now (mask .entry)) (words (now (secret .entry))) (signed (now (errors .entry))) (words (now (plaintexts .entry))) ⌝ }
+{
+    let mut k = 0;
+    while k < out.len() {
+        out[k] = packed_word(mask, secret, errors, plaintexts, k, modulus);
+        k += 1;
+    }
+}
+
+// 11: `len` is not n mask words and `count` bodies. No sum: it could overflow.
+fn room_differs(len: usize, dimension: usize, count: usize) -> bool
+    ensures { λ r. ⌜ r ≡ lengthFails len (dimension + count) ⌝ }
+{
+    if len < dimension {
+        return true;
+    }
+    len - dimension != count
+}
+
+// The first refusal of a packed encryption, or 0.
+fn packed_refusal(
+    modulus: Modulus,
+    n: usize,
+    secret: &[u32],
+    mask: &[u32],
+    errors: &[i32],
+    bound: u32,
+    plaintexts: &[u32],
+    room: usize,
+) -> u32
+    ensures { λ r. ⌜ r ≡ packedRefusal modulus n (now (secret .entry)) (now (mask .entry)) (now (errors .entry)) bound (now (plaintexts .entry)) room ⌝ }
+{
+    let r = checks::refuse(0, checks::modulus_refused(modulus), 2);
+    let r = checks::refuse(r, dimension_refused(n), 6);
+    let r = checks::refuse(r, checks::length_differs(secret.len(), n), 9);
+    let r = checks::refuse(r, n < plaintexts.len(), 10);
+    let r = checks::refuse(r, room_differs(room, n, plaintexts.len()), 11);
+    let r = checks::refuse(r, checks::length_differs(mask.len(), n), 12);
+    let r = checks::refuse(
+        r,
+        checks::length_differs(errors.len(), plaintexts.len()),
+        12,
+    );
+    let r = checks::refuse(r, checks::bound_refused(bound, modulus), 13);
+    let r = checks::refuse(r, checks::words_refused(modulus, secret), 14);
+    let r = checks::refuse(r, checks::words_refused(modulus, mask), 14);
+    let r = checks::refuse(r, checks::words_refused(modulus, plaintexts), 14);
+    checks::refuse(r, checks::errors_refused(bound, errors), 15)
+}
+
+// n mask words, then a body for each plaintext. Refuses by 2, 6, 9, 10, 11, 12, 13, 14, 15.
+pub fn encrypt_encoded_packed_to(
+    modulus: Modulus,
+    n: usize,
+    secret: &[u32],
+    mask: &[u32],
+    errors: &[i32],
+    bound: u32,
+    plaintexts: &[u32],
+    out: &mut [u32],
+) -> u32
+    ensures { λ r. ⌜ Answers (packedRefusal modulus n (now (secret .entry)) (now (mask .entry)) (now (errors .entry)) bound (now (plaintexts .entry)) (length (now (out .entry)))) (packed (sizeOf modulus) n (length (now (plaintexts .entry))) (now (mask .entry)) (words (now (secret .entry))) (signed (now (errors .entry))) (words (now (plaintexts .entry)))) (now (out .entry)) r (now (out .exit)) ⌝ }
+{
+    let r = packed_refusal(
+        modulus,
+        n,
+        secret,
+        mask,
+        errors,
+        bound,
+        plaintexts,
+        out.len(),
+    );
+    if r != 0 {
+        return r;
+    }
+    write_packed(out, mask, secret, errors, plaintexts, modulus);
+    0
 }
 
 // 10: fewer than n words, or more than n bodies. No sum: it could overflow.
