@@ -13,5 +13,5 @@ pub use message::decrypt_message;
 pub use message::decrypt_message_signed;
 pub use message::encrypt_message_signed_to;
 pub use message::encrypt_message_to;
-pub use packed::decrypt_phase_packed_to;
-pub use packed::encrypt_encoded_packed_to;
+pub use packed::decrypt_phase_packed;
+pub use packed::encrypt_encoded_packed;

@@ -124,7 +124,7 @@ fn packed_refusal(
 }
 
 // n mask words, then a body for each plaintext. Refuses by 2, 6, 9, 10, 11, 12, 13, 14, 15.
-pub fn encrypt_encoded_packed_to(
+pub fn encrypt_encoded_packed(
     modulus: Modulus,
     n: usize,
     secret: &[u32],
@@ -171,7 +171,7 @@ fn body_count(len: usize, dimension: usize) -> usize
 }
 
 // The phase of each body. Refuses by 2, 6, 9, 10, 11, 14.
-pub fn decrypt_phase_packed_to(
+pub fn decrypt_phase_packed(
     modulus: Modulus,
     n: usize,
     secret: &[u32],

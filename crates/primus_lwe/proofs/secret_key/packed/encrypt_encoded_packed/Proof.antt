@@ -5,8 +5,8 @@ use Rattle.scheme.specs.Lwe.{words, signed, packed}
 use Rattle.checks.proofs.Table.{refused, done}
 use Rattle.primus_reduce.specs.Ring.{sizeOf}
 use Rattle.primus_lwe.proofs.Laws.{Packed, packable}
-use Rattle.primus_lwe.proofs.secret_key.packed.encrypt_encoded_packed_to.Statement.{statement}
-use Rattle.primus_lwe.proofs.secret_key.packed.encrypt_encoded_packed_to.Tie as tie
+use Rattle.primus_lwe.proofs.secret_key.packed.encrypt_encoded_packed.Statement.{statement}
+use Rattle.primus_lwe.proofs.secret_key.packed.encrypt_encoded_packed.Tie as tie
 
 abbrev start : tie.After-packed-refusal → tie.Start
 start c = c .before .before .before .before .before
@@ -31,5 +31,5 @@ returns-2 c =
     (w .write-packed .ensures
     ∙ ap (λ n. packed (sizeOf (a .modulus)) n (length (a .plaintexts .now)) (a .mask .now) (words (a .secret .now)) (signed (a .errors .now)) (words (a .plaintexts .now))) (ready e .mask))
 
-pub encrypt-encoded-packed-to-spec : {M : Type 1} → statement M
-encrypt-encoded-packed-to-spec = tie.close (tie.spec (λ c κs. tt) returns write-packed-requires (λ c. search needs) returns-2)
+pub encrypt-encoded-packed-spec : {M : Type 1} → statement M
+encrypt-encoded-packed-spec = tie.close (tie.spec (λ c κs. tt) returns write-packed-requires (λ c. search needs) returns-2)

@@ -10,8 +10,8 @@ use Rattle.checks.proofs.Table.{none, _▹_, first, refused, done}
 use Rattle.primus_reduce.specs.Ring.{sizeOf}
 use Rattle.primus_lwe.specs.Answers.{packedPhaseRows}
 use Rattle.primus_lwe.proofs.Laws.{PhasablePacked, phasable-packed}
-use Rattle.primus_lwe.proofs.secret_key.packed.decrypt_phase_packed_to.Statement.{statement}
-use Rattle.primus_lwe.proofs.secret_key.packed.decrypt_phase_packed_to.Tie as tie
+use Rattle.primus_lwe.proofs.secret_key.packed.decrypt_phase_packed.Statement.{statement}
+use Rattle.primus_lwe.proofs.secret_key.packed.decrypt_phase_packed.Tie as tie
 
 abbrev start : tie.After-refuse7 → tie.Start
 start c = c .before .before .before .before .before .before .before .before .before .before .before .before .before .before .before .before .before .before
@@ -55,8 +55,8 @@ returns-2 c =
     done (sym (number (e .before)) ∙ e .if1 .left)
     (w .phases .ensures ∙ ap (λ m. tabulate m (packedPhase (sizeOf (a .modulus)) (a .n) (a .input .now) (words (a .secret .now)))) (ready e .count))
 
-pub decrypt-phase-packed-to-spec : {M : Type 1} → statement M
-decrypt-phase-packed-to-spec =
+pub decrypt-phase-packed-spec : {M : Type 1} → statement M
+decrypt-phase-packed-spec =
     tie.close
     (tie.spec (λ c κs. tt) (λ c κs. tt) (λ c κs. tt) (λ c κs. tt) (λ c κs. tt) (λ c κs. tt) (λ c κs. tt) (λ c κs. tt) (λ c κs. tt) (λ c κs. tt)
     (λ c κs. tt) (λ c κs. tt) (λ c κs. tt) (λ c κs. tt) (λ c κs. tt) returns phases-requires (λ c. search needs) returns-2)
