@@ -1,15 +1,15 @@
 -- The refusals of the calls under a key of `len` numbers, of which check 14 says `bad`; and their answers.
-use mathlib.Core.Bool.{Bool, _||_}
+use mathlib.Core.Bool.{Bool}
 use mathlib.Core.List.{List, [], _∷_}
 use mathlib.Core.Path.{_≡_}
 use Prim.Native.Nat.{ℕ, _+_, _-_, _<_, _≤_}
-use lib.Dec.{eqb, ltb}
+use lib.Dec.{eqb}
 use lib.IntN.{ℤ}
 use lib.ListN.{length}
 use Rattle.scheme.specs.Numbers.{pick}
 use Rattle.scheme.specs.Lwe.{phaseOf}
 use Rattle.scheme.specs.Codec.{decode}
-use Rattle.scheme.specs.Checks.{Check, row, firstOf, modulusFails, dimensionFails, plaintextFails, smallFails, lengthFails, boundFails, wordFails, wordsFail, errorsFail, messageFails}
+use Rattle.scheme.specs.Checks.{Check, row, firstOf, modulusFails, dimensionFails, plaintextFails, smallFails, lengthFails, countFails, packedFails, boundFails, wordFails, wordsFail, errorsFail, messageFails}
 use Rattle.primus_reduce.specs.Ring.{meant, sizeOf}
 use Rattle.primus_reduce.specs.declared.modulus.Modulus.{Modulus}
 use Rattle.primus_lwe.specs.declared.secret_key.borrowed.PhaseAnswer.{PhaseAnswer}
@@ -94,10 +94,6 @@ abbrev pub messageAnswer : Modulus → ℕ → ℕ → ℕ → Bool → (ℕ →
 messageAnswer m n t len bad s x =
     pick (eqb (openRefusal m n t len bad x) 0) (M.Message (decode (sizeOf m) t (phaseOf (sizeOf m) n x s))) (M.Refused (openRefusal m n t len bad x))
 
--- "10. … packed messages or bodies number more than n (fewer than n words in a packed input count here)", of a packed input of `len` words
-abbrev pub packedFails : ℕ → ℕ → Bool
-packedFails len n = ltb len n || ltb (n + n) len
-
 -- the phases of the packed ciphertext x under the words s
 abbrev pub packedPhaseRows : Modulus → ℕ → List ℕ → List ℕ → ℕ → List Check
 packedPhaseRows m n s x room =
@@ -123,7 +119,7 @@ packedRows m n s a es E ps room =
     row (modulusFails (meant m)) 2
     ∷ row (dimensionFails n) 6
     ∷ row (lengthFails (length s) n) 9
-    ∷ row (ltb n (length ps)) 10
+    ∷ row (countFails (length ps) n) 10
     ∷ row (lengthFails room (n + length ps)) 11
     ∷ row (lengthFails (length a) n) 12
     ∷ row (lengthFails (length es) (length ps)) 12

@@ -88,6 +88,14 @@ codecRefusal t m = firstOf (codecRows t m)
 abbrev pub lengthFails : ℕ → ℕ → Bool
 lengthFails x y = not (eqb x y)
 
+-- "10. … packed messages or bodies number more than n", c of them
+abbrev pub countFails : ℕ → ℕ → Bool
+countFails c n = ltb n c
+
+-- "(fewer than n words in a packed input count here)", of a packed input of `len` words
+abbrev pub packedFails : ℕ → ℕ → Bool
+packedFails len n = ltb len n || ltb (n + n) len
+
 -- "13. E is above 1,048,576, or not below q."
 abbrev pub boundFails : ℕ → ℕ → Bool
 boundFails q E = ltb 1048576 E || leb q E
