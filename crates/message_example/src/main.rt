@@ -1,0 +1,54 @@
+// A message encrypted and opened, and one that is refused. The expected words are worked out by hand from document 01:
+// encode(5) = 5 × 2^28, so the body is 3 × 1000000007 − 123456789 − 3 + 1342177280 modulo 2^32.
+use libc::STDOUT_FILENO;
+use primus_encoding::PlaintextEmbedding;
+use primus_lwe::MessageAnswer;
+use primus_lwe::decrypt_message;
+use primus_lwe::encrypt_message_to;
+use primus_reduce::Modulus;
+
+fn say(label: &[u8], number: u32) {
+    io::write_all(STDOUT_FILENO, label);
+    io::print_decimal(STDOUT_FILENO, number as u64);
+    io::write_all(STDOUT_FILENO, b"\n");
+}
+
+fn encrypt(message: u32, out: &mut [u32]) -> u32 {
+    let secret = [3u32, 0xffff_ffff];
+    let mask = [1000000007u32, 123456789];
+    let errors = [-3i32];
+    encrypt_message_to(
+        Modulus::Native,
+        2,
+        16,
+        PlaintextEmbedding::Unsigned,
+        &secret,
+        &mask,
+        &errors,
+        3,
+        message,
+        out,
+    )
+}
+
+fn open(ciphertext: &[u32]) {
+    let secret = [3u32, 0xffff_ffff];
+    let opened = decrypt_message(Modulus::Native, 2, 16, &secret, ciphertext);
+    match opened {
+        MessageAnswer::Message(m) => say(b"message ", m),
+        MessageAnswer::Refused(r) => say(b"refused ", r),
+    }
+}
+
+fn main() {
+    let mut out = [0u32; 3];
+    let five = encrypt(5, &mut out);
+    say(b"answer ", five);
+    say(b"body ", out[2]);
+    open(&out);
+    let sixteen = encrypt(16, &mut out);
+    say(b"answer ", sixteen);
+    say(b"body ", out[2]);
+    let short = [out[0], out[1]];
+    open(&short);
+}
