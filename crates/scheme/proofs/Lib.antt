@@ -2,6 +2,7 @@ pub mod Integers
 pub mod Residue
 pub mod Sums
 pub mod Lists
+pub mod Rows
 pub mod Balanced
 pub mod Reading
 pub mod Window
