@@ -2,6 +2,10 @@
 // encode(5) = 5 × 2^28, so the body is 3 × 1000000007 − 123456789 − 3 + 1342177280 modulo 2^32.
 use libc::STDOUT_FILENO;
 use primus_encoding::PlaintextEmbedding;
+use primus_lattice::LweDimension;
+use primus_lattice::LweDimensionAnswer;
+use primus_lwe::LweParameters;
+use primus_lwe::LweParametersAnswer;
 use primus_lwe::MessageAnswer;
 use primus_lwe::decrypt_message;
 use primus_lwe::encrypt_message_to;
@@ -13,42 +17,56 @@ fn say(label: &[u8], number: u32) {
     io::write_all(STDOUT_FILENO, b"\n");
 }
 
-fn encrypt(message: u32, out: &mut [u32]) -> u32 {
+fn encrypt(params: LweParameters, message: u32, out: &mut [u32]) -> u32 {
     let secret = [3u32, 0xffff_ffff];
     let mask = [1000000007u32, 123456789];
     let errors = [-3i32];
     encrypt_message_to(
-        Modulus::Native,
-        2,
-        16,
+        params,
         PlaintextEmbedding::Unsigned,
         &secret,
         &mask,
         &errors,
-        3,
         message,
         out,
     )
 }
 
-fn open(ciphertext: &[u32]) {
+fn open(params: LweParameters, ciphertext: &[u32]) {
     let secret = [3u32, 0xffff_ffff];
-    let opened = decrypt_message(Modulus::Native, 2, 16, &secret, ciphertext);
+    let opened = decrypt_message(params, &secret, ciphertext);
     match opened {
         MessageAnswer::Message(m) => say(b"message ", m),
         MessageAnswer::Refused(r) => say(b"refused ", r),
     }
 }
 
-fn main() {
+fn run(params: LweParameters) {
     let mut out = [0u32; 3];
-    let five = encrypt(5, &mut out);
+    let five = encrypt(params, 5, &mut out);
     say(b"answer ", five);
     say(b"body ", out[2]);
-    open(&out);
-    let sixteen = encrypt(16, &mut out);
+    open(params, &out);
+    let sixteen = encrypt(params, 16, &mut out);
     say(b"answer ", sixteen);
     say(b"body ", out[2]);
     let short = [out[0], out[1]];
-    open(&short);
+    open(params, &short);
+}
+
+// n = 2, native, t = 16, E = 3.
+fn with_dimension(dimension: LweDimension) {
+    let made = LweParameters::try_new(dimension, Modulus::Native, 16, 3);
+    match made {
+        LweParametersAnswer::Accepted(params) => run(params),
+        LweParametersAnswer::Refused(r) => say(b"refused ", r),
+    }
+}
+
+fn main() {
+    let made = LweDimension::try_new(2);
+    match made {
+        LweDimensionAnswer::Accepted(dimension) => with_dimension(dimension),
+        LweDimensionAnswer::Refused(r) => say(b"refused ", r),
+    }
 }

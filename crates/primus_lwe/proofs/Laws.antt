@@ -1,6 +1,6 @@
 -- Laws of the leaves, and what the checks of a call leave.
 -- Assumes nothing.
-use mathlib.Core.Path.{_≡_, refl, sym, ap, ap₂, _∙_}
+use mathlib.Core.Path.{_≡_, refl, sym, ap, ap₂, subst, _∙_}
 use mathlib.Core.Bool.{Bool, true, false, not, _||_}
 use mathlib.Core.List.{List, [], _∷_, _++_}
 use Prim.Native.Nat.{ℕ, zero, suc, _+_, _-_, _*_, _≤_, _<_}
@@ -14,7 +14,7 @@ use borrow.Author.Tests.{eqb-true, eqb-false, eq-eqb, ne-eqb, lt-leb, lt-ltb, le
 use Rattle.scheme.specs.Numbers.{pick, residue, Cong, sumTo, tabulate}
 use Rattle.scheme.specs.Lwe.{words, signed, inner, bodyOf, encrypted, phaseOf, rotated, packed, packedPhase}
 use Rattle.scheme.specs.Codec.{decode}
-use Rattle.scheme.specs.Checks.{Check, firstOf, codecRows, codecRefusal, lengthFails}
+use Rattle.scheme.specs.Checks.{Check, firstOf, codecRows, codecRefusal, lengthFails, Answers}
 use Rattle.scheme.proofs.Residue.{residue-lt, cong-refl, cong-of-eq, cong-trans, cong-add, residue-cong}
 use Rattle.scheme.proofs.Lists.{length-tabulate, getD-tabulate}
 use Rattle.scheme.proofs.Sums.{sum-ext}
@@ -30,7 +30,11 @@ use Rattle.primus_encoding.specs.declared.RoundedCodecAnswer.{RoundedCodecAnswe
 use Rattle.primus_encoding.specs.declared.RoundedCodecAnswer.the-variants as C
 use Rattle.primus_encoding.specs.declared.WordAnswer.{WordAnswer}
 use Rattle.primus_encoding.specs.declared.WordAnswer.the-variants as W
-use Rattle.primus_lwe.specs.Answers.{encryptRows, encryptRefusal, phaseRows, phaseRefusal, messageRows, messageRefusal, openRows, openRefusal, packedPhaseRows, Packable, packedRows, packedRefusal}
+use Rattle.checks.proofs.Table.{pick-by, answers-by}
+use Rattle.primus_lwe.specs.declared.parameter.LweEncryptionParameters.{LweEncryptionParameters}
+use Rattle.primus_lwe.specs.declared.parameter.LweParameters.{LweParameters}
+use Rattle.primus_lwe.specs.declared.secret_key.borrowed.KeyProduct.{KeyProduct}
+use Rattle.primus_lwe.specs.Answers.{keyProduct, withBody, lessProduct, encryptRows, encryptRefusal, phaseRows, phaseRefusal, messageRows, messageRefusal, openRows, openRefusal, packedPhaseRows, packedPhaseRefusal, Packable, packedRows, packedRefusal}
 
 -- the word that a reduction gives stands for its number
 pub modulo-stands : {q w : ℕ} → 0 < q → (z : ℤ) → w ≡ modulo q z → Cong q (pos w) z
@@ -70,18 +74,36 @@ module _ (n : ℕ) (x : List ℕ) where
 
 -- ---- encryption and phase by the words that stand for ⟨a, s⟩ and e
 
-module _ (q n : ℕ) (h : 0 < q) (x : List ℕ) (s : ℕ → ℤ) (sum : ℕ) (I : ℤ) (ei : I ≡ inner n x s) (es : sum ≡ modulo q I) where
-  sum-stands : Cong q (pos sum) (inner n x s)
-  sum-stands = rw (← ei) (modulo-stands h I es)
+-- the word that stands for an error
+pub body-stands : (q : ℕ) (a : List ℕ) (sum w : ℕ) (e : ℤ) (p : ℕ) → 0 < q → w ≡ modulo q e → a ++ (residue (pos sum +ℤ pos w +ℤ pos p) q ∷ []) ≡ withBody q a sum e p
+body-stands q a sum w e p h f =
+    ap (λ b. a ++ (b ∷ [])) (residue-cong h (cong-add (cong-add (cong-refl q (pos sum)) (modulo-stands h e f)) (cong-refl q (pos p))))
 
-  pub encrypted-is : (e : ℤ) (w p : ℕ) → w ≡ modulo q e → x ++ (residue (pos sum +ℤ pos w +ℤ pos p) q ∷ []) ≡ encrypted q n x s e (pos p)
+-- a call under a key of either form, whose product with the words x is I; R is its refusal
+module _ (m : Modulus) (n : ℕ) (x : List ℕ) (s : ℕ → ℤ) (I : ℤ) (R : ℕ → Bool → ℕ) (len : ℕ) (bad : Bool) (k : KeyProduct) (ek : k ≡ keyProduct (sizeOf m) len bad I)
+    (ok : R len bad ≡ 0 → (0 < sizeOf m) × (I ≡ inner n x s)) where
+  sum-stands : R len bad ≡ 0 → Cong (sizeOf m) (pos (modulo (sizeOf m) I)) (inner n x s)
+  sum-stands z = let o = ok z in rw (← o .1) (modulo-stands (o .0) I refl)
+
+  pub encrypted-by-key : (e : ℤ) (p : ℕ) {r : ℕ} {before after : List ℕ} → Answers (R (k .len) (k .refused)) (withBody (sizeOf m) x (k .sum) e p) before r after
+      → Answers (R len bad) (encrypted (sizeOf m) n x s e (pos p)) before r after
   unfolding encrypted bodyOf
-  encrypted-is e w p f =
-      ap (λ b. x ++ (b ∷ [])) (residue-cong h (cong-add (cong-add sum-stands (modulo-stands h e f)) (cong-refl q (pos p))))
+  encrypted-by-key e p {r} {before} {after} a =
+      answers-by _
+      (λ z. ap (λ b. x ++ (b ∷ [])) (residue-cong (ok z .0) (cong-add (cong-add (sum-stands z) (cong-refl (sizeOf m) e)) (cong-refl (sizeOf m) (pos p)))))
+      (subst (λ k. Answers (R (k .len) (k .refused)) (withBody (sizeOf m) x (k .sum) e p) before r after) ek a)
 
-  pub phase-is : {r : ℕ} → r ≡ modulo q (pos (getD x n 0) -ℤ pos sum) → r ≡ phaseOf q n x s
+  pub phase-by-key : {A : Type 0} (say deny : ℕ → A) {r : A} → r ≡ pick (eqb (R (k .len) (k .refused)) 0) (say (lessProduct m n (k .sum) x)) (deny (R (k .len) (k .refused)))
+      → r ≡ pick (eqb (R len bad) 0) (say (phaseOf (sizeOf m) n x s)) (deny (R len bad))
   unfolding phaseOf
-  phase-is e = e ∙ rw (ne-eqb q 0 (λ f. omega arith)) (residue-cong h (cong-sub (cong-refl q (pos (getD x n 0))) sum-stands))
+  phase-by-key say deny e =
+      e
+      ∙ ap (λ k. pick (eqb (R (k .len) (k .refused)) 0) (say (lessProduct m n (k .sum) x)) (deny (R (k .len) (k .refused)))) ek
+      ∙ pick-by (R len bad) _ _ (deny (R len bad))
+      (λ z. ap say (plain (ok z .0) ∙ residue-cong (ok z .0) (cong-sub (cong-refl (sizeOf m) (pos (getD x n 0))) (sum-stands z))))
+    where
+      plain : 0 < sizeOf m → lessProduct m n (modulo (sizeOf m) I) x ≡ residue (pos (getD x n 0) -ℤ pos (modulo (sizeOf m) I)) (sizeOf m)
+      plain h = ap (λ b. pick b 0 (residue (pos (getD x n 0) -ℤ pos (modulo (sizeOf m) I)) (sizeOf m))) (ne-eqb (sizeOf m) 0 (λ f. omega arith))
 
 -- two sums of words are one
 pub body-is : (q sum e p r b : ℕ) → 0 < q → r ≡ modulo q (pos sum +ℤ pos e) → b ≡ modulo q (pos r +ℤ pos p) → b ≡ residue (pos sum +ℤ pos e +ℤ pos p) q
@@ -100,6 +122,13 @@ module _ (a : List ℕ) (b : ℕ) where
 
 -- ---- what the checks leave
 
+-- the parameters with the dimension that `get` gave
+abbrev pub with-dimension : LweEncryptionParameters → ℕ → LweEncryptionParameters
+with-dimension P n = record { dimension = record { 0 = n }; modulus = P .modulus; bound = P .bound }
+
+abbrev pub with-dimension-t : LweParameters → ℕ → LweParameters
+with-dimension-t P n = record { dimension = record { 0 = n }; modulus = P .modulus; «plaintext_modulus» = P .«plaintext_modulus»; bound = P .bound }
+
 pub record Encryptable (m : Modulus) (n len : ℕ) (a : List ℕ) (es : List ℤ) (room : ℕ) : Type 0 where
   pub positive : 0 < sizeOf m
   pub key : len ≡ n
@@ -107,26 +136,26 @@ pub record Encryptable (m : Modulus) (n len : ℕ) (a : List ℕ) (es : List ℤ
   pub fits : room ≡ length a + 1
   pub one : 0 < length es
 
-pub encryptable : (m : Modulus) (n len : ℕ) (bad : Bool) (a : List ℕ) (es : List ℤ) (E p room : ℕ) → encryptRefusal m n len bad a es E p room ≡ 0
-    → Encryptable m n len a es room
+pub encryptable : (P : LweEncryptionParameters) (len : ℕ) (bad : Bool) (a : List ℕ) (es : List ℤ) (p room : ℕ) → encryptRefusal P len bad a es p room ≡ 0
+    → Encryptable (P .modulus) (P .dimension .0) len a es room
 unfolding encryptRefusal
-encryptable m n len bad a es E p room e =
-    let (two, (six, (nine, (eleven, (masks, (errors, rest)))))) = passed (encryptRows m n len bad a es E p room) tt e in
-    let r : room ≡ n + 1 = length-ok _ _ eleven in
-    let k : length a ≡ n = length-ok _ _ masks in
+encryptable P len bad a es p room e =
+    let (two, (six, (nine, (eleven, (masks, (errors, rest)))))) = passed (encryptRows P len bad a es p room) tt e in
+    let r : room ≡ P .dimension .0 + 1 = length-ok _ _ eleven in
+    let k : length a ≡ P .dimension .0 = length-ok _ _ masks in
     let o : length es ≡ 1 = length-ok _ _ errors in
-    record { positive = omega (arith, modulus-ok 32 (meant m) (omega arith) two); key = length-ok _ _ nine; mask = k; fits = omega arith; one = omega arith }
+    record { positive = omega (arith, modulus-ok 32 (meant (P .modulus)) (omega arith) two); key = length-ok _ _ nine; mask = k; fits = omega arith; one = omega arith }
 
 pub record Phasable (m : Modulus) (n len : ℕ) (x : List ℕ) : Type 0 where
   pub positive : 0 < sizeOf m
   pub key : len ≡ n
   pub whole : length x ≡ n + 1
 
-pub phasable : (m : Modulus) (n len : ℕ) (bad : Bool) (x : List ℕ) → phaseRefusal m n len bad x ≡ 0 → Phasable m n len x
+pub phasable : (P : LweEncryptionParameters) (len : ℕ) (bad : Bool) (x : List ℕ) → phaseRefusal P len bad x ≡ 0 → Phasable (P .modulus) (P .dimension .0) len x
 unfolding phaseRefusal
-phasable m n len bad x e =
-    let (two, (six, (nine, (ten, rest)))) = passed (phaseRows m n len bad x) tt e in
-    record { positive = omega (arith, modulus-ok 32 (meant m) (omega arith) two); key = length-ok _ _ nine; whole = length-ok _ _ ten }
+phasable P len bad x e =
+    let (two, (six, (nine, (ten, rest)))) = passed (phaseRows P len bad x) tt e in
+    record { positive = omega (arith, modulus-ok 32 (meant (P .modulus)) (omega arith) two); key = length-ok _ _ nine; whole = length-ok _ _ ten }
 
 -- ---- the codec, whose checks have passed
 
@@ -192,13 +221,15 @@ pub record Messageable (m : Modulus) (n t len : ℕ) (a : List ℕ) (es : List �
   pub codec : codecRefusal t (meant m) ≡ 0
   pub message : firstOf (encodeRows t m x) ≡ 0
 
-pub messageable : (m : Modulus) (n t len : ℕ) (bad : Bool) (a : List ℕ) (es : List ℤ) (E x room : ℕ) → messageRefusal m n t len bad a es E x room ≡ 0
-    → Messageable m n t len a es x room
+pub messageable : (P : LweParameters) (len : ℕ) (bad : Bool) (a : List ℕ) (es : List ℤ) (x room : ℕ) → messageRefusal P len bad a es x room ≡ 0
+    → Messageable (P .modulus) (P .dimension .0) (P .«plaintext_modulus») len a es x room
 unfolding messageRefusal
-messageable m n t len bad a es E x room e =
-    let (two, (six, (seven, (eight, (nine, (eleven, (masks, (errors, (thirteen, (key, (mask, (fifteen, (sixteen, end))))))))))))) = passed (messageRows m n t len bad a es E x room) tt e in
-    let r : room ≡ n + 1 = length-ok _ _ eleven in
-    let k : length a ≡ n = length-ok _ _ masks in
+messageable P len bad a es x room e =
+    let (two, (six, (seven, (eight, (nine, (eleven, (masks, (errors, (thirteen, (key, (mask, (fifteen, (sixteen, end))))))))))))) = passed (messageRows P len bad a es x room) tt e in
+    let m : Modulus = P .modulus in
+    let t : ℕ = P .«plaintext_modulus» in
+    let r : room ≡ P .dimension .0 + 1 = length-ok _ _ eleven in
+    let k : length a ≡ P .dimension .0 = length-ok _ _ masks in
     let o : length es ≡ 1 = length-ok _ _ errors in
     record {
       plain =
@@ -212,19 +243,21 @@ pub record Openable (m : Modulus) (n t len : ℕ) (x : List ℕ) : Type 0 where
   pub codec : codecRefusal t (meant m) ≡ 0
   pub word : (p : ℕ) → p < sizeOf m → firstOf (decodeRows t m p) ≡ 0
 
-pub openable : (m : Modulus) (n t len : ℕ) (bad : Bool) (x : List ℕ) → openRefusal m n t len bad x ≡ 0 → Openable m n t len x
+pub openable : (P : LweParameters) (len : ℕ) (bad : Bool) (x : List ℕ) → openRefusal P len bad x ≡ 0 → Openable (P .modulus) (P .dimension .0) (P .«plaintext_modulus») len x
 unfolding openRefusal
-openable m n t len bad x e =
-    let (two, (six, (seven, (eight, (nine, (ten, rest)))))) = passed (openRows m n t len bad x) tt e in
+openable P len bad x e =
+    let (two, (six, (seven, (eight, (nine, (ten, rest)))))) = passed (openRows P len bad x) tt e in
+    let m : Modulus = P .modulus in
+    let t : ℕ = P .«plaintext_modulus» in
     record {
       phase = record { positive = omega (arith, modulus-ok 32 (meant m) (omega arith) two); key = length-ok _ _ nine; whole = length-ok _ _ ten };
       codec = none-fails (codecRows t (meant m)) (two, (seven, (eight, tt)));
       word = λ p h. none-fails (decodeRows t m p) (two, (seven, (eight, (lt-leb (sizeOf m) p h, tt))));
     }
 
-pub phase-below : (q n : ℕ) (x : List ℕ) (s : ℕ → ℤ) (p : ℕ) → 0 < q → p ≡ phaseOf q n x s → p < q
-unfolding phaseOf
-phase-below q n x s p h e = rw e (residue-lt (pos (getD x n 0) -ℤ inner n x s) q h)
+-- what a subtraction gives is a word
+pub less-below : (m : Modulus) (n sum : ℕ) (x : List ℕ) (p : ℕ) → 0 < sizeOf m → p ≡ lessProduct m n sum x → p < sizeOf m
+less-below m n sum x p h e = rw (e, ne-eqb (sizeOf m) 0 (λ f. omega arith)) (residue-lt (pos (getD x n 0) -ℤ pos sum) (sizeOf m) h)
 
 -- ---- packed ciphertexts
 
@@ -276,13 +309,16 @@ pub record PhasablePacked (m : Modulus) (n len words room : ℕ) : Type 0 where
   pub whole : words ≡ n + room
   pub count : room ≡ words - n
 
-pub phasable-packed : (m : Modulus) (n : ℕ) (s x : List ℕ) (room : ℕ) → firstOf (packedPhaseRows m n s x room) ≡ 0 → PhasablePacked m n (length s) (length x) room
-phasable-packed m n s x room e =
-    let (two, (six, (nine, (ten, (eleven, rest))))) = passed (packedPhaseRows m n s x room) tt e in
+pub phasable-packed : (P : LweEncryptionParameters) (s x : List ℕ) (room : ℕ) → packedPhaseRefusal P s x room ≡ 0
+    → PhasablePacked (P .modulus) (P .dimension .0) (length s) (length x) room
+unfolding packedPhaseRefusal
+phasable-packed P s x room e =
+    let (two, (six, (nine, (ten, (eleven, rest))))) = passed (packedPhaseRows P s x room) tt e in
+    let n : ℕ = P .dimension .0 in
     let l : n ≤ length x = ltb-false (length x) n (or-left (ltb (length x) n) (ltb (n + n) (length x)) ten) in
     let u : length x ≤ n + n = ltb-false (n + n) (length x) (or-right (ltb (length x) n) (ltb (n + n) (length x)) ten) in
     let c : room ≡ length x - n = length-ok _ _ eleven in
-    record { positive = omega (arith, modulus-ok 32 (meant m) (omega arith) two); key = length-ok _ _ nine; bodies = omega arith; whole = omega arith; count = c }
+    record { positive = omega (arith, modulus-ok 32 (meant (P .modulus)) (omega arith) two); key = length-ok _ _ nine; bodies = omega arith; whole = omega arith; count = c }
   where
     or-left : (a b : Bool) → (a || b) ≡ false → a ≡ false
     or-left true b e = e
@@ -292,19 +328,24 @@ phasable-packed m n s x room e =
     or-right true b e = let z : true ≡ false = e in cc
     or-right false b e = e
 
+-- body i, from the words that stand for its mask product and its error
+pub packed-body-is : (q n : ℕ) (a : List ℕ) (s : ℕ → ℤ) (e : ℤ) (i p x w y : ℕ) {r : ℕ} → 0 < q → x ≡ modulo q (rotated n a s i) → w ≡ modulo q e
+    → y ≡ modulo q (pos x +ℤ pos w) → r ≡ modulo q (pos y +ℤ pos p) → r ≡ residue (rotated n a s i +ℤ e +ℤ pos p) q
+packed-body-is q n a s e i p x w y h ex ew ey er =
+    er
+    ∙ rw (ne-eqb q 0 (λ f. omega arith)) (residue-cong h (cong-add (cong-trans (modulo-stands h (pos x +ℤ pos w) ey) (cong-add (modulo-stands h _ ex) (modulo-stands h _ ew))) (cong-refl q (pos p))))
+
 -- word k of a packed ciphertext
 module _ (q c : ℕ) (a : List ℕ) (s e p : ℕ → ℤ) (k : ℕ) where
   pub packed-mask : k < length a → getD a k 0 ≡ getD (packed q (length a) c a s e p) k 0
   unfolding packed
   packed-mask h = sym (List·getD-append a _ 0 k h)
 
-  pub packed-body : (x w y : ℕ) {r : ℕ} → 0 < q → length a ≤ k → k - length a < c → x ≡ modulo q (rotated (length a) a s (k - length a)) → w ≡ modulo q (e (k - length a))
-      → y ≡ modulo q (pos x +ℤ pos w) → (b : ℕ) → pos b ≡ p (k - length a) → r ≡ modulo q (pos y +ℤ pos b) → r ≡ getD (packed q (length a) c a s e p) k 0
+  pub packed-body : {r : ℕ} → length a ≤ k → k - length a < c → r ≡ residue (rotated (length a) a s (k - length a) +ℤ e (k - length a) +ℤ p (k - length a)) q
+      → r ≡ getD (packed q (length a) c a s e p) k 0
   unfolding packed
-  packed-body x w y h l m ex ew ey b eb er =
-      er
-      ∙ rw (ne-eqb q 0 (λ f. omega arith)) (residue-cong h (cong-add (cong-trans (modulo-stands h (pos x +ℤ pos w) ey) (cong-add (modulo-stands h _ ex) (modulo-stands h _ ew))) (cong-of-eq q eb)))
-      ∙ sym (ap (λ z. getD (a ++ tabulate c body) z 0) place ∙ getD-append-add a (tabulate c body) (k - length a) 0 ∙ getD-tabulate c body (k - length a) m)
+  packed-body l m er =
+      er ∙ sym (ap (λ z. getD (a ++ tabulate c body) z 0) place ∙ getD-append-add a (tabulate c body) (k - length a) 0 ∙ getD-tabulate c body (k - length a) m)
     where
       body : ℕ → ℕ
       body i = residue (rotated (length a) a s i +ℤ e i +ℤ p i) q
@@ -331,16 +372,18 @@ pub record Packed (m : Modulus) (n : ℕ) (s a : List ℕ) (es : List ℤ) (ps :
   pub mask : length a ≡ n
   pub fits : room ≡ length a + length ps
 
-pub packable : (m : Modulus) (n : ℕ) (s a : List ℕ) (es : List ℤ) (E : ℕ) (ps : List ℕ) (room : ℕ) → packedRefusal m n s a es E ps room ≡ 0 → Packed m n s a es ps room
+pub packable : (P : LweEncryptionParameters) (s a : List ℕ) (es : List ℤ) (ps : List ℕ) (room : ℕ) → packedRefusal P s a es ps room ≡ 0
+    → Packed (P .modulus) (P .dimension .0) s a es ps room
 unfolding packedRefusal
-packable m n s a es E ps room e =
-    let (two, (six, (nine, (ten, (eleven, (masks, (errors, rest))))))) = passed (packedRows m n s a es E ps room) tt e in
+packable P s a es ps room e =
+    let (two, (six, (nine, (ten, (eleven, (masks, (errors, rest))))))) = passed (packedRows P s a es ps room) tt e in
+    let n : ℕ = P .dimension .0 in
     let t : length ps ≤ n = ltb-false n (length ps) ten in
     let f : length s ≡ n = length-ok _ _ nine in
     let r : room ≡ n + length ps = length-ok _ _ eleven in
     let k : length a ≡ n = length-ok _ _ masks in
     record {
-      able = record { positive = omega (arith, modulus-ok 32 (meant m) (omega arith) two); keys = omega arith; each = length-ok _ _ errors; most = omega arith };
+      able = record { positive = omega (arith, modulus-ok 32 (meant (P .modulus)) (omega arith) two); keys = omega arith; each = length-ok _ _ errors; most = omega arith };
       mask = k;
       fits = omega arith;
     }

@@ -1,110 +1,161 @@
 -- The refusals of the calls under a key of `len` numbers, of which check 14 says `bad`; and their answers.
 use mathlib.Core.Bool.{Bool}
-use mathlib.Core.List.{List, [], _∷_}
+use mathlib.Core.List.{List, [], _∷_, _++_}
 use mathlib.Core.Path.{_≡_}
 use Prim.Native.Nat.{ℕ, _+_, _-_, _<_, _≤_}
 use lib.Dec.{eqb}
-use lib.IntN.{ℤ}
-use lib.ListN.{length}
-use Rattle.scheme.specs.Numbers.{pick}
+use lib.IntN.{ℤ, pos, _+ℤ_, _-ℤ_}
+use lib.ListN.{length, getD}
+use Rattle.scheme.specs.Numbers.{pick, residue}
 use Rattle.scheme.specs.Lwe.{phaseOf}
 use Rattle.scheme.specs.Codec.{decode}
 use Rattle.scheme.specs.Checks.{Check, row, firstOf, modulusFails, dimensionFails, plaintextFails, smallFails, lengthFails, countFails, packedFails, boundFails, wordFails, wordsFail, errorsFail, messageFails}
-use Rattle.primus_reduce.specs.Ring.{meant, sizeOf}
+use Rattle.primus_reduce.specs.Ring.{meant, sizeOf, modulo}
 use Rattle.primus_reduce.specs.declared.modulus.Modulus.{Modulus}
+use Rattle.primus_lwe.specs.declared.parameter.LweEncryptionParameters.{LweEncryptionParameters}
+use Rattle.primus_lwe.specs.declared.parameter.LweEncryptionParametersAnswer.{LweEncryptionParametersAnswer}
+use Rattle.primus_lwe.specs.declared.parameter.LweEncryptionParametersAnswer.the-variants as E
+use Rattle.primus_lwe.specs.declared.parameter.LweParameters.{LweParameters}
+use Rattle.primus_lwe.specs.declared.parameter.LweParametersAnswer.{LweParametersAnswer}
+use Rattle.primus_lwe.specs.declared.parameter.LweParametersAnswer.the-variants as L
+use Rattle.primus_lwe.specs.declared.secret_key.borrowed.KeyProduct.{KeyProduct}
 use Rattle.primus_lwe.specs.declared.secret_key.borrowed.PhaseAnswer.{PhaseAnswer}
-use Rattle.primus_lwe.specs.declared.secret_key.borrowed.PhaseAnswer.the-variants as P
+use Rattle.primus_lwe.specs.declared.secret_key.borrowed.PhaseAnswer.the-variants as A
 use Rattle.primus_lwe.specs.declared.secret_key.message.MessageAnswer.{MessageAnswer}
 use Rattle.primus_lwe.specs.declared.secret_key.message.MessageAnswer.the-variants as M
 
--- an encryption of p with mask a and the lent errors es into `room` words
-abbrev pub encryptRows : Modulus → ℕ → ℕ → Bool → List ℕ → List ℤ → ℕ → ℕ → ℕ → List Check
-encryptRows m n len bad a es E p room =
-    row (modulusFails (meant m)) 2
-    ∷ row (dimensionFails n) 6
-    ∷ row (lengthFails len n) 9
-    ∷ row (lengthFails room (n + 1)) 11
-    ∷ row (lengthFails (length a) n) 12
-    ∷ row (lengthFails (length es) 1) 12
-    ∷ row (boundFails (sizeOf m) E) 13
-    ∷ row bad 14
-    ∷ row (wordsFail (sizeOf m) a) 14
-    ∷ row (wordFails (sizeOf m) p) 14
-    ∷ row (errorsFail E es) 15
+-- parameters judge 2, 6, 13, and with t 7 and 8
+abbrev pub encryptionParametersRows : LweEncryptionParameters → List Check
+encryptionParametersRows P = row (modulusFails (meant (P .modulus))) 2 ∷ row (dimensionFails (P .dimension .0)) 6 ∷ row (boundFails (sizeOf (P .modulus)) (P .bound)) 13 ∷ []
+
+abbrev pub encryptionParametersAnswer : LweEncryptionParameters → LweEncryptionParametersAnswer
+encryptionParametersAnswer P = pick (eqb (firstOf (encryptionParametersRows P)) 0) (E.Accepted P) (E.Refused (firstOf (encryptionParametersRows P)))
+
+abbrev pub parametersRows : LweParameters → List Check
+parametersRows P =
+    row (modulusFails (meant (P .modulus))) 2
+    ∷ row (dimensionFails (P .dimension .0)) 6
+    ∷ row (plaintextFails (P .«plaintext_modulus»)) 7
+    ∷ row (smallFails (P .«plaintext_modulus») (meant (P .modulus))) 8
+    ∷ row (boundFails (sizeOf (P .modulus)) (P .bound)) 13
     ∷ []
 
-unfoldable pub encryptRefusal : Modulus → ℕ → ℕ → Bool → List ℕ → List ℤ → ℕ → ℕ → ℕ → ℕ
-encryptRefusal m n len bad a es E p room = firstOf (encryptRows m n len bad a es E p room)
+abbrev pub parametersAnswer : LweParameters → LweParametersAnswer
+parametersAnswer P = pick (eqb (firstOf (parametersRows P)) 0) (L.Accepted P) (L.Refused (firstOf (parametersRows P)))
+
+-- a key of either form, whose inner product is I
+abbrev pub keyProduct : ℕ → ℕ → Bool → ℤ → KeyProduct
+keyProduct q len bad I = record { len = len; refused = bad; sum = modulo q I }
+
+-- the mask a and the body sum + e + p, where the word sum stands for ⟨a, s⟩
+abbrev pub withBody : ℕ → List ℕ → ℕ → ℤ → ℕ → List ℕ
+withBody q a sum e p = a ++ (residue (pos sum +ℤ e +ℤ pos p) q ∷ [])
+
+-- an encryption of p with mask a and the lent errors es into `room` words
+abbrev pub encryptRows : LweEncryptionParameters → ℕ → Bool → List ℕ → List ℤ → ℕ → ℕ → List Check
+encryptRows P len bad a es p room =
+    row (modulusFails (meant (P .modulus))) 2
+    ∷ row (dimensionFails (P .dimension .0)) 6
+    ∷ row (lengthFails len (P .dimension .0)) 9
+    ∷ row (lengthFails room (P .dimension .0 + 1)) 11
+    ∷ row (lengthFails (length a) (P .dimension .0)) 12
+    ∷ row (lengthFails (length es) 1) 12
+    ∷ row (boundFails (sizeOf (P .modulus)) (P .bound)) 13
+    ∷ row bad 14
+    ∷ row (wordsFail (sizeOf (P .modulus)) a) 14
+    ∷ row (wordFails (sizeOf (P .modulus)) p) 14
+    ∷ row (errorsFail (P .bound) es) 15
+    ∷ []
+
+unfoldable pub encryptRefusal : LweEncryptionParameters → ℕ → Bool → List ℕ → List ℤ → ℕ → ℕ → ℕ
+encryptRefusal P len bad a es p room = firstOf (encryptRows P len bad a es p room)
 
 -- a phase of the ciphertext x
-abbrev pub phaseRows : Modulus → ℕ → ℕ → Bool → List ℕ → List Check
-phaseRows m n len bad x =
-    row (modulusFails (meant m)) 2
-    ∷ row (dimensionFails n) 6
-    ∷ row (lengthFails len n) 9
-    ∷ row (lengthFails (length x) (n + 1)) 10
+abbrev pub phaseRows : LweEncryptionParameters → ℕ → Bool → List ℕ → List Check
+phaseRows P len bad x =
+    row (modulusFails (meant (P .modulus))) 2
+    ∷ row (dimensionFails (P .dimension .0)) 6
+    ∷ row (lengthFails len (P .dimension .0)) 9
+    ∷ row (lengthFails (length x) (P .dimension .0 + 1)) 10
+    ∷ row (boundFails (sizeOf (P .modulus)) (P .bound)) 13
     ∷ row bad 14
-    ∷ row (wordsFail (sizeOf m) x) 14
+    ∷ row (wordsFail (sizeOf (P .modulus)) x) 14
     ∷ []
 
-unfoldable pub phaseRefusal : Modulus → ℕ → ℕ → Bool → List ℕ → ℕ
-phaseRefusal m n len bad x = firstOf (phaseRows m n len bad x)
+unfoldable pub phaseRefusal : LweEncryptionParameters → ℕ → Bool → List ℕ → ℕ
+phaseRefusal P len bad x = firstOf (phaseRows P len bad x)
 
-abbrev pub phaseAnswer : Modulus → ℕ → ℕ → Bool → (ℕ → ℤ) → List ℕ → PhaseAnswer
-phaseAnswer m n len bad s x = pick (eqb (phaseRefusal m n len bad x) 0) (P.Phase (phaseOf (sizeOf m) n x s)) (P.Refused (phaseRefusal m n len bad x))
+abbrev pub phaseAnswer : LweEncryptionParameters → ℕ → Bool → (ℕ → ℤ) → List ℕ → PhaseAnswer
+phaseAnswer P len bad s x =
+    pick (eqb (phaseRefusal P len bad x) 0) (A.Phase (phaseOf (sizeOf (P .modulus)) (P .dimension .0) x s)) (A.Refused (phaseRefusal P len bad x))
+
+-- the same, where the word sum stands for ⟨a, s⟩
+abbrev pub lessProduct : Modulus → ℕ → ℕ → List ℕ → ℕ
+lessProduct m n sum x = modulo (sizeOf m) (pos (getD x n 0) -ℤ pos sum)
+
+abbrev pub phaseBy : LweEncryptionParameters → ℕ → Bool → ℕ → List ℕ → PhaseAnswer
+phaseBy P len bad sum x = pick (eqb (phaseRefusal P len bad x) 0) (A.Phase (lessProduct (P .modulus) (P .dimension .0) sum x)) (A.Refused (phaseRefusal P len bad x))
 
 -- an encryption of the message x below t
-abbrev pub messageRows : Modulus → ℕ → ℕ → ℕ → Bool → List ℕ → List ℤ → ℕ → ℕ → ℕ → List Check
-messageRows m n t len bad a es E x room =
-    row (modulusFails (meant m)) 2
-    ∷ row (dimensionFails n) 6
-    ∷ row (plaintextFails t) 7
-    ∷ row (smallFails t (meant m)) 8
-    ∷ row (lengthFails len n) 9
-    ∷ row (lengthFails room (n + 1)) 11
-    ∷ row (lengthFails (length a) n) 12
+abbrev pub messageRows : LweParameters → ℕ → Bool → List ℕ → List ℤ → ℕ → ℕ → List Check
+messageRows P len bad a es x room =
+    row (modulusFails (meant (P .modulus))) 2
+    ∷ row (dimensionFails (P .dimension .0)) 6
+    ∷ row (plaintextFails (P .«plaintext_modulus»)) 7
+    ∷ row (smallFails (P .«plaintext_modulus») (meant (P .modulus))) 8
+    ∷ row (lengthFails len (P .dimension .0)) 9
+    ∷ row (lengthFails room (P .dimension .0 + 1)) 11
+    ∷ row (lengthFails (length a) (P .dimension .0)) 12
     ∷ row (lengthFails (length es) 1) 12
-    ∷ row (boundFails (sizeOf m) E) 13
+    ∷ row (boundFails (sizeOf (P .modulus)) (P .bound)) 13
     ∷ row bad 14
-    ∷ row (wordsFail (sizeOf m) a) 14
-    ∷ row (errorsFail E es) 15
-    ∷ row (messageFails t x) 16
+    ∷ row (wordsFail (sizeOf (P .modulus)) a) 14
+    ∷ row (errorsFail (P .bound) es) 15
+    ∷ row (messageFails (P .«plaintext_modulus») x) 16
     ∷ []
 
-unfoldable pub messageRefusal : Modulus → ℕ → ℕ → ℕ → Bool → List ℕ → List ℤ → ℕ → ℕ → ℕ → ℕ
-messageRefusal m n t len bad a es E x room = firstOf (messageRows m n t len bad a es E x room)
+unfoldable pub messageRefusal : LweParameters → ℕ → Bool → List ℕ → List ℤ → ℕ → ℕ → ℕ
+messageRefusal P len bad a es x room = firstOf (messageRows P len bad a es x room)
 
 -- a decoded phase
-abbrev pub openRows : Modulus → ℕ → ℕ → ℕ → Bool → List ℕ → List Check
-openRows m n t len bad x =
-    row (modulusFails (meant m)) 2
-    ∷ row (dimensionFails n) 6
-    ∷ row (plaintextFails t) 7
-    ∷ row (smallFails t (meant m)) 8
-    ∷ row (lengthFails len n) 9
-    ∷ row (lengthFails (length x) (n + 1)) 10
+abbrev pub openRows : LweParameters → ℕ → Bool → List ℕ → List Check
+openRows P len bad x =
+    row (modulusFails (meant (P .modulus))) 2
+    ∷ row (dimensionFails (P .dimension .0)) 6
+    ∷ row (plaintextFails (P .«plaintext_modulus»)) 7
+    ∷ row (smallFails (P .«plaintext_modulus») (meant (P .modulus))) 8
+    ∷ row (lengthFails len (P .dimension .0)) 9
+    ∷ row (lengthFails (length x) (P .dimension .0 + 1)) 10
+    ∷ row (boundFails (sizeOf (P .modulus)) (P .bound)) 13
     ∷ row bad 14
-    ∷ row (wordsFail (sizeOf m) x) 14
+    ∷ row (wordsFail (sizeOf (P .modulus)) x) 14
     ∷ []
 
-unfoldable pub openRefusal : Modulus → ℕ → ℕ → ℕ → Bool → List ℕ → ℕ
-openRefusal m n t len bad x = firstOf (openRows m n t len bad x)
+unfoldable pub openRefusal : LweParameters → ℕ → Bool → List ℕ → ℕ
+openRefusal P len bad x = firstOf (openRows P len bad x)
 
-abbrev pub messageAnswer : Modulus → ℕ → ℕ → ℕ → Bool → (ℕ → ℤ) → List ℕ → MessageAnswer
-messageAnswer m n t len bad s x =
-    pick (eqb (openRefusal m n t len bad x) 0) (M.Message (decode (sizeOf m) t (phaseOf (sizeOf m) n x s))) (M.Refused (openRefusal m n t len bad x))
+-- the message in the phase p
+abbrev pub openedBy : LweParameters → ℕ → Bool → ℕ → List ℕ → MessageAnswer
+openedBy P len bad p x = pick (eqb (openRefusal P len bad x) 0) (M.Message (decode (sizeOf (P .modulus)) (P .«plaintext_modulus») p)) (M.Refused (openRefusal P len bad x))
+
+abbrev pub messageAnswer : LweParameters → ℕ → Bool → (ℕ → ℤ) → List ℕ → MessageAnswer
+messageAnswer P len bad s x = openedBy P len bad (phaseOf (sizeOf (P .modulus)) (P .dimension .0) x s) x
 
 -- the phases of the packed ciphertext x under the words s
-abbrev pub packedPhaseRows : Modulus → ℕ → List ℕ → List ℕ → ℕ → List Check
-packedPhaseRows m n s x room =
-    row (modulusFails (meant m)) 2
-    ∷ row (dimensionFails n) 6
-    ∷ row (lengthFails (length s) n) 9
-    ∷ row (packedFails (length x) n) 10
-    ∷ row (lengthFails room (length x - n)) 11
-    ∷ row (wordsFail (sizeOf m) s) 14
-    ∷ row (wordsFail (sizeOf m) x) 14
+abbrev pub packedPhaseRows : LweEncryptionParameters → List ℕ → List ℕ → ℕ → List Check
+packedPhaseRows P s x room =
+    row (modulusFails (meant (P .modulus))) 2
+    ∷ row (dimensionFails (P .dimension .0)) 6
+    ∷ row (lengthFails (length s) (P .dimension .0)) 9
+    ∷ row (packedFails (length x) (P .dimension .0)) 10
+    ∷ row (lengthFails room (length x - P .dimension .0)) 11
+    ∷ row (boundFails (sizeOf (P .modulus)) (P .bound)) 13
+    ∷ row (wordsFail (sizeOf (P .modulus)) s) 14
+    ∷ row (wordsFail (sizeOf (P .modulus)) x) 14
     ∷ []
+
+unfoldable pub packedPhaseRefusal : LweEncryptionParameters → List ℕ → List ℕ → ℕ → ℕ
+packedPhaseRefusal P s x room = firstOf (packedPhaseRows P s x room)
 
 -- what the innermost packed encryption asks, of the lengths of mask, key, errors and plaintexts
 pub record Packable (q mask key errors count : ℕ) : Type 0 where
@@ -114,21 +165,21 @@ pub record Packable (q mask key errors count : ℕ) : Type 0 where
   pub most : count ≤ mask
 
 -- a packed encryption of the words ps
-abbrev pub packedRows : Modulus → ℕ → List ℕ → List ℕ → List ℤ → ℕ → List ℕ → ℕ → List Check
-packedRows m n s a es E ps room =
-    row (modulusFails (meant m)) 2
-    ∷ row (dimensionFails n) 6
-    ∷ row (lengthFails (length s) n) 9
-    ∷ row (countFails (length ps) n) 10
-    ∷ row (lengthFails room (n + length ps)) 11
-    ∷ row (lengthFails (length a) n) 12
+abbrev pub packedRows : LweEncryptionParameters → List ℕ → List ℕ → List ℤ → List ℕ → ℕ → List Check
+packedRows P s a es ps room =
+    row (modulusFails (meant (P .modulus))) 2
+    ∷ row (dimensionFails (P .dimension .0)) 6
+    ∷ row (lengthFails (length s) (P .dimension .0)) 9
+    ∷ row (countFails (length ps) (P .dimension .0)) 10
+    ∷ row (lengthFails room (P .dimension .0 + length ps)) 11
+    ∷ row (lengthFails (length a) (P .dimension .0)) 12
     ∷ row (lengthFails (length es) (length ps)) 12
-    ∷ row (boundFails (sizeOf m) E) 13
-    ∷ row (wordsFail (sizeOf m) s) 14
-    ∷ row (wordsFail (sizeOf m) a) 14
-    ∷ row (wordsFail (sizeOf m) ps) 14
-    ∷ row (errorsFail E es) 15
+    ∷ row (boundFails (sizeOf (P .modulus)) (P .bound)) 13
+    ∷ row (wordsFail (sizeOf (P .modulus)) s) 14
+    ∷ row (wordsFail (sizeOf (P .modulus)) a) 14
+    ∷ row (wordsFail (sizeOf (P .modulus)) ps) 14
+    ∷ row (errorsFail (P .bound) es) 15
     ∷ []
 
-unfoldable pub packedRefusal : Modulus → ℕ → List ℕ → List ℕ → List ℤ → ℕ → List ℕ → ℕ → ℕ
-packedRefusal m n s a es E ps room = firstOf (packedRows m n s a es E ps room)
+unfoldable pub packedRefusal : LweEncryptionParameters → List ℕ → List ℕ → List ℤ → List ℕ → ℕ → ℕ
+packedRefusal P s a es ps room = firstOf (packedRows P s a es ps room)

@@ -1,6 +1,7 @@
+use mathlib.Core.Path.{refl, ap, _∙_}
 use Rattle.checks.proofs.Table.{none, _▹_, first}
-use mathlib.Core.Path.{refl}
 use Rattle.primus_lwe.specs.Answers.{encryptRows, encryptRefusal}
+use Rattle.primus_lwe.proofs.Laws.{with-dimension}
 use Rattle.primus_lwe.proofs.secret_key.borrowed.encrypt_refusal.Statement.{statement}
 use Rattle.primus_lwe.proofs.secret_key.borrowed.encrypt_refusal.Tie as tie
 
@@ -17,8 +18,9 @@ returns c =
     let r3 = r4 .before .before in
     let r2 = r3 .before .before in
     let r1 = r2 .before .before in
-    let a = r1 .before .before .before .args in
-    first (encryptRows (a .modulus) (a .n) (a .key-len) (a .key-refused) (a .mask .now) (a .errors .now) (a .bound) (a .plaintext) (a .room)) tt
+    let g = r1 .before .before in
+    let a = g .before .before .args in
+    first (encryptRows (with-dimension (a .params) (g .get .result)) (a .key .len) (a .key .refused) (a .mask .now) (a .errors .now) (a .plaintext) (a .room)) tt
     (none
     ▹ (r1 .refuse .ensures, r1 .before .modulus-refused .ensures)
     ▹ (r2 .refuse2 .ensures, r2 .before .dimension-refused .ensures)
@@ -31,10 +33,11 @@ returns c =
     ▹ (r9 .refuse9 .ensures, r9 .before .words-refused .ensures)
     ▹ (r10 .refuse10 .ensures, r10 .before .word-refused .ensures)
     ▹ (c .refuse11 .ensures, c .before .errors-refused .ensures))
+    ∙ ap (λ n. encryptRefusal (with-dimension (a .params) n) (a .key .len) (a .key .refused) (a .mask .now) (a .errors .now) (a .plaintext) (a .room)) (g .get .ensures)
 
 pub encrypt-refusal-spec : {M : Type 1} → statement M
 encrypt-refusal-spec =
     tie.close
     (tie.spec (λ c κs. tt) (λ c κs. tt) (λ c κs. tt) (λ c κs. tt) (λ c κs. tt) (λ c κs. tt) (λ c κs. tt) (λ c κs. tt) (λ c κs. tt) (λ c κs. tt)
     (λ c κs. tt) (λ c κs. tt) (λ c κs. tt) (λ c κs. tt) (λ c κs. tt) (λ c κs. tt) (λ c κs. tt) (λ c κs. tt) (λ c κs. tt) (λ c κs. tt)
-    (λ c κs. tt) returns)
+    (λ c κs. tt) (λ c κs. tt) returns)

@@ -1,6 +1,7 @@
-use mathlib.Core.Path.{refl}
+use mathlib.Core.Path.{refl, ap, _∙_}
 use Rattle.checks.proofs.Table.{none, _▹_, first}
 use Rattle.primus_lwe.specs.Answers.{messageRows, messageRefusal}
+use Rattle.primus_lwe.proofs.Laws.{with-dimension-t}
 use Rattle.primus_lwe.proofs.secret_key.message.message_refusal.Statement.{statement}
 use Rattle.primus_lwe.proofs.secret_key.message.message_refusal.Tie as tie
 
@@ -19,8 +20,9 @@ returns c =
     let r3 = r4 .before .before in
     let r2 = r3 .before .before in
     let r1 = r2 .before .before in
-    let a = r1 .before .before .before .args in
-    first (messageRows (a .modulus) (a .n) (a .plaintext-modulus) (a .key-len) (a .key-refused) (a .mask .now) (a .errors .now) (a .bound) (a .message) (a .room)) tt
+    let g = r1 .before .before in
+    let a = g .before .before .args in
+    first (messageRows (with-dimension-t (a .params) (g .get .result)) (a .key .len) (a .key .refused) (a .mask .now) (a .errors .now) (a .message) (a .room)) tt
     (none
     ▹ (r1 .refuse .ensures, r1 .before .modulus-refused .ensures)
     ▹ (r2 .refuse2 .ensures, r2 .before .dimension-refused .ensures)
@@ -35,10 +37,11 @@ returns c =
     ▹ (r11 .refuse11 .ensures, r11 .before .words-refused .ensures)
     ▹ (r12 .refuse12 .ensures, r12 .before .errors-refused .ensures)
     ▹ (c .refuse13 .ensures, c .before .message-refused .ensures))
+    ∙ ap (λ n. messageRefusal (with-dimension-t (a .params) n) (a .key .len) (a .key .refused) (a .mask .now) (a .errors .now) (a .message) (a .room)) (g .get .ensures)
 
 pub message-refusal-spec : {M : Type 1} → statement M
 message-refusal-spec =
     tie.close
-    (tie.spec (λ c κs. tt) (λ c κs. tt) (λ c κs. tt) (λ c κs. tt) (λ c κs. tt) (λ c κs. tt) (λ c κs. tt) (λ c κs. tt) (λ c κs. tt)
+    (tie.spec (λ c κs. tt) (λ c κs. tt) (λ c κs. tt) (λ c κs. tt) (λ c κs. tt) (λ c κs. tt) (λ c κs. tt) (λ c κs. tt) (λ c κs. tt) (λ c κs. tt)
     (λ c κs. tt) (λ c κs. tt) (λ c κs. tt) (λ c κs. tt) (λ c κs. tt) (λ c κs. tt) (λ c κs. tt) (λ c κs. tt) (λ c κs. tt) (λ c κs. tt)
     (λ c κs. tt) (λ c κs. tt) (λ c κs. tt) (λ c κs. tt) (λ c κs. tt) (λ c κs. tt) returns)

@@ -1,6 +1,7 @@
-use mathlib.Core.Path.{refl}
+use mathlib.Core.Path.{refl, ap, _∙_}
 use Rattle.checks.proofs.Table.{none, _▹_, first}
 use Rattle.primus_lwe.specs.Answers.{packedRows, packedRefusal}
+use Rattle.primus_lwe.proofs.Laws.{with-dimension}
 use Rattle.primus_lwe.proofs.secret_key.packed.packed_refusal.Statement.{statement}
 use Rattle.primus_lwe.proofs.secret_key.packed.packed_refusal.Tie as tie
 
@@ -18,8 +19,9 @@ returns c =
     let r3 = r4 .before in
     let r2 = r3 .before .before in
     let r1 = r2 .before .before in
-    let a = r1 .before .before .before .before .before .args in
-    first (packedRows (a .modulus) (a .n) (a .secret .now) (a .mask .now) (a .errors .now) (a .bound) (a .plaintexts .now) (a .room)) tt
+    let g = r1 .before .before in
+    let a = g .before .before .before .before .args in
+    first (packedRows (with-dimension (a .params) (g .get .result)) (a .secret .now) (a .mask .now) (a .errors .now) (a .plaintexts .now) (a .room)) tt
     (none
     ▹ (r1 .refuse .ensures, r1 .before .modulus-refused .ensures)
     ▹ (r2 .refuse2 .ensures, r2 .before .dimension-refused .ensures)
@@ -33,10 +35,11 @@ returns c =
     ▹ (r10 .refuse10 .ensures, r10 .before .words-refused2 .ensures)
     ▹ (r11 .refuse11 .ensures, r11 .before .words-refused3 .ensures)
     ▹ (c .refuse12 .ensures, c .before .errors-refused .ensures))
+    ∙ ap (λ n. packedRefusal (with-dimension (a .params) n) (a .secret .now) (a .mask .now) (a .errors .now) (a .plaintexts .now) (a .room)) (g .get .ensures)
 
 pub packed-refusal-spec : {M : Type 1} → statement M
 packed-refusal-spec =
     tie.close
-    (tie.spec (λ c κs. tt) (λ c κs. tt) (λ c κs. tt) (λ c κs. tt) (λ c κs. tt) (λ c κs. tt) (λ c κs. tt) (λ c κs. tt) (λ c κs. tt)
+    (tie.spec (λ c κs. tt) (λ c κs. tt) (λ c κs. tt) (λ c κs. tt) (λ c κs. tt) (λ c κs. tt) (λ c κs. tt) (λ c κs. tt) (λ c κs. tt) (λ c κs. tt)
     (λ c κs. tt) (λ c κs. tt) (λ c κs. tt) (λ c κs. tt) (λ c κs. tt) (λ c κs. tt) (λ c κs. tt) (λ c κs. tt) (λ c κs. tt) (λ c κs. tt)
     (λ c κs. tt) (λ c κs. tt) (λ c κs. tt) (λ c κs. tt) returns)
