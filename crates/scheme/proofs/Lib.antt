@@ -15,3 +15,4 @@ pub mod Codec
 pub mod CodecCases
 pub mod Lwe
 pub mod Tally
+pub mod Extract
