@@ -1,21 +1,25 @@
 -- Laws of the leaves and of the calls.
 -- Assumes nothing.
 use mathlib.Core.Path.{_≡_, refl, sym, ap, _∙_}
-use mathlib.Core.Bool.{Bool, true, false}
+use mathlib.Core.Bool.{Bool, true, false, _||_}
+use mathlib.Core.List.{List}
 use Prim.Native.Nat.{ℕ, zero, suc, _+_, _-_, _*_, _%_, _^_, _≤_, _<_}
 use native.Mathlib.Nat.{mul-le-mul}
 use native.Mathlib.Omega.{arith}
 use lib.Dec.{ltb, eqb}
-use lib.IntN.{ℤ, pos, _+ℤ_}
-use borrow.Author.Tests.{ltb-true, ltb-false, lt-ltb, le-ltb, ne-eqb}
+use lib.IntN.{ℤ, pos, negℤ, _+ℤ_, _-ℤ_, +ℤ-idl}
+use lib.ListN.{length}
+use borrow.Author.Tests.{ltb-true, ltb-false, leb-false, lt-ltb, le-ltb, le-leb, ne-eqb}
 use Rattle.scheme.specs.Numbers.{pick, residue}
 use Rattle.scheme.specs.Modulus as S
 use Rattle.scheme.specs.Tally.{addTally, tallyFails}
+use Rattle.scheme.specs.Checks.{firstOf}
+use Rattle.scheme.proofs.Checks.{passed, modulus-ok, length-ok}
 use Rattle.primus_reduce.specs.Ring.{meant, sizeOf, modulo}
 use Rattle.primus_reduce.specs.declared.modulus.Modulus.{Modulus}
 use Rattle.primus_lattice.specs.declared.tag.Tally.{Tally}
 use Rattle.primus_lattice.specs.declared.tag.Tally.the-variants.{Absent, Present}
-use Rattle.primus_lattice.specs.Answers.{meantTally, heldTally, cap}
+use Rattle.primus_lattice.specs.Answers.{meantTally, heldTally, cap, bodyFails, extractRows}
 
 pub picked : {A : Type 0} (b : Bool) (x y : A) → b ≡ true → x ≡ pick b x y
 picked b x y e = rw e
@@ -60,8 +64,48 @@ size-most m f = go (meant m) f
     go S.Native f = omega arith
     go (S.Explicit q) f = omega arith
 
+-- ---- packed ciphertexts
+
+-- n + n < len, told from n < len − n
+pub bodies-above : (len n : ℕ) → n ≤ len → ltb n (len - n) ≡ (ltb len n || ltb (n + n) len)
+bodies-above len n h = go (ltb n (len - n)) refl
+  where
+    go : (b : Bool) → ltb n (len - n) ≡ b → b ≡ (ltb len n || ltb (n + n) len)
+    go true e = rw (le-ltb len n h, lt-ltb (n + n) len (omega (arith, ltb-true n (len - n) e)))
+    go false e = rw (le-ltb len n h, le-ltb (n + n) len (omega (arith, ltb-false n (len - n) e)))
+
+pub no-bodies : (len n i : ℕ) → len < n → ltb len n ≡ bodyFails len n i
+no-bodies len n i h = lt-ltb len n h ∙ sym (le-leb (len - n) i (omega arith))
+
 -- ---- words
 
 pub add-is : (q a b r : ℕ) → 0 < q → r ≡ modulo q (pos a +ℤ pos b) → r ≡ (a + b) % q
 unfolding residue
 add-is q a b r h f = f ∙ rw (ne-eqb q 0 (λ z. omega arith)) refl
+
+pub less-is : (q a r : ℕ) → 0 < q → r ≡ modulo q (pos 0 -ℤ pos a) → r ≡ residue (negℤ (pos a)) q
+less-is q a r h f = f ∙ rw (ne-eqb q 0 (λ z. omega arith)) (ap (λ z. residue z q) (+ℤ-idl (negℤ (pos a))))
+
+-- ---- what the checks of a sample leave
+
+pub record Extractable (q n i len room : ℕ) : Type 0 where
+  pub positive : 0 < q
+  pub body : i < n
+  pub within : n + i < len
+  pub fits : room ≡ n + 1
+
+pub extractable : (m : Modulus) (n : ℕ) (x : List ℕ) (i room : ℕ) → firstOf (extractRows m n x i room) ≡ 0 → Extractable (sizeOf m) n i (length x) room
+extractable m n x i room e =
+    let (two, (six, (ten, (body, (eleven, rest))))) = passed (extractRows m n x i room) tt e in
+    let l : n ≤ length x = ltb-false (length x) n (or-left (ltb (length x) n) (ltb (n + n) (length x)) ten) in
+    let u : length x ≤ n + n = ltb-false (n + n) (length x) (or-right (ltb (length x) n) (ltb (n + n) (length x)) ten) in
+    let b : i < length x - n = leb-false (length x - n) i body in
+    record { positive = omega (arith, modulus-ok 32 (meant m) (omega arith) two); body = omega arith; within = omega arith; fits = length-ok _ _ eleven }
+  where
+    or-left : (a b : Bool) → (a || b) ≡ false → a ≡ false
+    or-left true b e = e
+    or-left false b e = refl
+
+    or-right : (a b : Bool) → (a || b) ≡ false → b ≡ false
+    or-right true b e = let z : true ≡ false = e in cc
+    or-right false b e = e

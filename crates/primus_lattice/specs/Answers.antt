@@ -1,12 +1,12 @@
 -- The answers of the calls: the value that a definition gives, or the first number that applies.
 use mathlib.Core.Bool.{Bool}
 use mathlib.Core.List.{List, [], _∷_, _++_}
-use Prim.Native.Nat.{ℕ, _+_, _^_}
-use lib.Dec.{eqb}
+use Prim.Native.Nat.{ℕ, _+_, _-_, _^_}
+use lib.Dec.{eqb, leb}
 use lib.ListN.{length}
 use Rattle.scheme.specs.Numbers.{pick}
 use Rattle.scheme.specs.Tally as S
-use Rattle.scheme.specs.Checks.{Check, row, firstOf, modulusFails, dimensionFails, codecRows, lengthFails, wordsFail}
+use Rattle.scheme.specs.Checks.{Check, row, firstOf, modulusFails, dimensionFails, codecRows, lengthFails, packedFails, wordsFail}
 use Rattle.primus_reduce.specs.Ring.{meant, sizeOf}
 use Rattle.primus_reduce.specs.declared.modulus.Modulus.{Modulus}
 use Rattle.primus_lattice.specs.declared.dimension.LweDimensionAnswer.{LweDimensionAnswer}
@@ -63,4 +63,19 @@ addRows m n xs ys =
     ∷ row (lengthFails (length ys) (n + 1)) 10
     ∷ row (wordsFail (sizeOf m) xs) 14
     ∷ row (wordsFail (sizeOf m) ys) 14
+    ∷ []
+
+-- 10: a packed input of `len` words, n of them mask words, has no body i
+abbrev pub bodyFails : ℕ → ℕ → ℕ → Bool
+bodyFails len n i = leb (len - n) i
+
+-- a sample of body i of the packed ciphertext x, into `room` words, judges 2, 6, 10, 11 and 14
+abbrev pub extractRows : Modulus → ℕ → List ℕ → ℕ → ℕ → List Check
+extractRows m n x i room =
+    row (modulusFails (meant m)) 2
+    ∷ row (dimensionFails n) 6
+    ∷ row (packedFails (length x) n) 10
+    ∷ row (bodyFails (length x) n i) 10
+    ∷ row (lengthFails room (n + 1)) 11
+    ∷ row (wordsFail (sizeOf m) x) 14
     ∷ []

@@ -1,11 +1,14 @@
-// LWE ciphertexts over words of 32 bits: the dimension, what a ciphertext carries beside its words, and sums.
+// LWE ciphertexts over words of 32 bits: the dimension, what a ciphertext carries beside its words, sums, and packed ciphertexts.
 mod dimension;
+mod multiple_message;
 mod single_message;
 mod tag;
 
 pub use dimension::LweDimension;
 pub use dimension::LweDimensionAnswer;
 pub use dimension::dimension_refused;
+pub use multiple_message::extract_lwe_at;
+pub use multiple_message::packed_refused;
 pub use single_message::add_assign;
 pub use tag::LweTag;
 pub use tag::LweTagAnswer;

@@ -16,3 +16,4 @@ pub mod Codec
 pub mod CodecCases
 pub mod Lwe
 pub mod Tally
+pub mod Extract

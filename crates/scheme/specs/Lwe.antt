@@ -54,3 +54,10 @@ publicRow q n masks s e i = encrypted q n (take n (drop (i * n) masks)) s (e i) 
 -- "starts from n + 1 errors, adds p to the body, then adds or subtracts row i by a lent coefficient rᵢ": word k, for a key of rows of n + 1 words
 unfoldable pub publicWord : ℕ → ℕ → List ℕ → (ℕ → ℤ) → ℤ → (ℕ → ℤ) → ℕ → ℕ
 publicWord q n key f p r k = residue (f k +ℤ pick (eqb k n) p (pos 0) +ℤ sumTo n (λ i. r i *ℤ pos (getD key (i * (n + 1) + k) 0))) q
+
+-- The sample of body i of the packed ciphertext x. "body i uses Σ over j < n−i of a_j·s_(j+i), minus Σ over j ≥ n−i of a_j·s_(j−n+i)":
+-- mask word k is minus word n − i + k for k below i, else word k − i; the body is word n + i.
+unfoldable pub extracted : ℕ → ℕ → List ℕ → ℕ → List ℕ
+extracted q n x i =
+    tabulate n (λ k. pick (lib.Dec.ltb k i) (residue (lib.IntN.negℤ (pos (getD x (n - i + k) 0))) q) (getD x (k - i) 0))
+    ++ (getD x (n + i) 0 ∷ [])

@@ -1,0 +1,75 @@
+// Packed ciphertexts: n shared mask words, then at most n bodies. Body i uses the mask rotated right by i, its first i words negated.
+ghost use mathlib.Core.Path.{_≡_};
+ghost use Prim.Native.Nat.{_+_, _-_, _<_, _≤_};
+ghost use lib.ListN.{length, getD};
+ghost use Rattle.scheme.specs.Lwe.{extracted};
+ghost use Rattle.scheme.specs.Checks.{firstOf, packedFails, Answers};
+ghost use Rattle.primus_reduce.specs.Ring.{sizeOf};
+ghost use Rattle.primus_lattice.specs.Answers.{bodyFails, extractRows};
+use crate::dimension::LweDimension;
+use crate::dimension::dimension_refused;
+use primus_reduce::Modulus;
+
+// 10: fewer than n words, or more than n bodies. No sum: it could overflow.
+pub fn packed_refused(len: usize, dimension: usize) -> bool
+    ensures { λ r. ⌜ r ≡ packedFails len dimension ⌝ }
+{
+    len < dimension || dimension < len - dimension
+}
+
+// 10: there is no body `index`. No sum: it could overflow.
+fn body_missing(len: usize, dimension: usize, index: usize) -> bool
+    ensures { λ r. ⌜ r ≡ bodyFails len dimension index ⌝ }
+{
+    len < dimension || len - dimension <= index
+}
+
+// Word k of the sample of body i: minus word n − i + k for k below i, word k − i for k below n, and then word n + i.
+fn extracted_word(input: &[u32], n: usize, index: usize, k: usize, modulus: Modulus) -> u32
+    requires { ⌜ (index < n) × (n + index < length (now input)) × (k ≤ n) × (0 < sizeOf modulus) ⌝ }
+    ensures { λ r. ⌜ r ≡ getD (extracted (sizeOf modulus) n (now (input .entry)) index) k 0 ⌝ }
+{
+    if k < index {
+        let wrapped = input[n - index + k];
+        return modulus.reduce_sub(0, wrapped);
+    }
+    if k < n {
+        return input[k - index];
+    }
+    input[n + index]
+}
+
+fn write_extracted(out: &mut [u32], input: &[u32], n: usize, index: usize, modulus: Modulus)
+    requires { ⌜ (index < n) × (n + index < length (now input)) × (length (now out) ≡ n + 1) × (0 < sizeOf modulus) ⌝ }
+    ensures { λ _. ⌜ now (out .exit) ≡ extracted (sizeOf modulus) n (now (input .entry)) index ⌝ }
+{
+    let mut k = 0;
+    while k < out.len() {
+        out[k] = extracted_word(input, n, index, k, modulus);
+        k += 1;
+    }
+}
+
+// The sample of body `index`, as a ciphertext of one message. Refuses by 2, 6, 10, 11, 14.
+pub fn extract_lwe_at(
+    modulus: Modulus,
+    dimension: LweDimension,
+    input: &[u32],
+    index: usize,
+    out: &mut [u32],
+) -> u32
+    ensures { λ r. ⌜ Answers (firstOf (extractRows modulus (dimension .0) (now (input .entry)) index (length (now (out .entry))))) (extracted (sizeOf modulus) (dimension .0) (now (input .entry)) index) (now (out .entry)) r (now (out .exit)) ⌝ }
+{
+    let n = dimension.get();
+    let r = checks::refuse(0, checks::modulus_refused(modulus), 2);
+    let r = checks::refuse(r, dimension_refused(n), 6);
+    let r = checks::refuse(r, packed_refused(input.len(), n), 10);
+    let r = checks::refuse(r, body_missing(input.len(), n, index), 10);
+    let r = checks::refuse(r, checks::ciphertext_differs(out.len(), n), 11);
+    let r = checks::refuse(r, checks::words_refused(modulus, input), 14);
+    if r != 0 {
+        return r;
+    }
+    write_extracted(out, input, n, index, modulus);
+    0
+}
