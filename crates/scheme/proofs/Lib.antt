@@ -15,4 +15,5 @@ pub mod InPlace
 pub mod Codec
 pub mod CodecCases
 pub mod Lwe
+pub mod Switch
 pub mod Tally

@@ -3,14 +3,18 @@
 --     rows-at         word k of row i
 --     rows-part       row i, as that part of the whole
 --     rows-ext        rows depend on f below c only
+--     rows-below      their words are below q where those of each row are
 --     is-rows         a list of c × w words is the rows whose words it holds
 --     rows-next       replacing the next w words by the next row
 --     filling-start   before the first row is written over the list d,
 --     filling-next    one row more,
 --     filling-end     and after the last
+--     part-at         word k of part i of any list,
+--     part-length     how long it is,
+--     part-below      and that its words are below q where the list's are
 -- Assumes nothing.
 use mathlib.Core.Path.{_≡_, refl, sym, _∙_, ap, ap₂, subst}
-use mathlib.Core.List.{List, [], _∷_, _++_, append-assoc, append-nil}
+use mathlib.Core.List.{List, _++_, append-assoc, append-nil}
 use Prim.Native.Nat.{ℕ, zero, suc, _+_, _*_, _-_, _/_, _%_, _<_, _≤_}
 use native.Mathlib.Omega.{arith}
 use native.Mathlib.Nat.{mod-lt, div-add-mod, div-lt-iff-lt-mul, mul-le-mul-right, suc-mul, zero-mul}
@@ -29,6 +33,24 @@ pub rows-ext : (c : ℕ) (f g : ℕ → List ℕ) → ((i : ℕ) → i < c → f
 unfolding rowsOf
 rows-ext zero f g h = refl
 rows-ext (suc c) f g h = ap₂ _++_ (rows-ext c f g (λ i k. h i (omega arith))) (h c (omega arith))
+
+-- words below q, in one list and then another
+pub append-below : (q : ℕ) (xs ys : List ℕ) → ((k : ℕ) → k < length xs → getD xs k 0 < q) → ((k : ℕ) → k < length ys → getD ys k 0 < q)
+    → (k : ℕ) → k < length (xs ++ ys) → getD (xs ++ ys) k 0 < q
+append-below q xs ys h g k l = go (decLt k (length xs))
+  where
+    go : Dec (k < length xs) → getD (xs ++ ys) k 0 < q
+    go (yes m) = subst (λ n. n < q) (sym (List·getD-append xs ys 0 k m)) (h k m)
+    go (no m) =
+        let e : k ≡ length xs + (k - length xs) = omega arith in
+        subst (λ n. n < q) (sym (ap (λ p. getD (xs ++ ys) p 0) e ∙ getD-append-add xs ys (k - length xs) 0)) (g (k - length xs) (omega (arith, length-append xs ys)))
+
+-- and in rows
+pub rows-below : (q c : ℕ) (f : ℕ → List ℕ) → ((i : ℕ) → i < c → (k : ℕ) → k < length (f i) → getD (f i) k 0 < q)
+    → (k : ℕ) → k < length (rowsOf c f) → getD (rowsOf c f) k 0 < q
+unfolding rowsOf
+rows-below q zero f h k l = absurd (omega arith)
+rows-below q (suc c) f h k l = append-below q (rowsOf c f) (f c) (rows-below q c f (λ i m. h i (omega arith))) (h c (omega arith)) k l
 
 module _ (f : ℕ → List ℕ) (w : ℕ) where
   -- c rows are c × w words
@@ -153,3 +175,20 @@ module _ {f : ℕ → List ℕ} {w c : ℕ} {d now : List ℕ} {i : ℕ} (r : Fi
       ∙ ap (λ n. rowsOf c f ++ drop n d) (sym (r .whole))
       ∙ ap (λ l. rowsOf c f ++ l) (drop-length d)
       ∙ append-nil (rowsOf c f)
+
+-- ---- parts of w words of any list
+
+-- word k of part i
+pub part-at : (w : ℕ) (xs : List ℕ) (i k : ℕ) → k < w → getD (take w (drop (i * w) xs)) k 0 ≡ getD xs (i * w + k) 0
+part-at w xs i k h = getD-take w (drop (i * w) xs) k 0 h ∙ getD-drop (i * w) xs k 0
+
+-- part i of c parts has w words
+pub part-length : (w c : ℕ) (xs : List ℕ) (i : ℕ) → length xs ≡ c * w → i < c → length (take w (drop (i * w) xs)) ≡ w
+part-length w c xs i e h = length-take-le w (drop (i * w) xs) (omega (arith, length-drop (i * w) xs, row-within w c i h))
+
+-- words below q, in a part too
+pub part-below : (q w : ℕ) (xs : List ℕ) (i : ℕ) → ((k : ℕ) → k < length xs → getD xs k 0 < q)
+    → (k : ℕ) → k < length (take w (drop (i * w) xs)) → getD (take w (drop (i * w) xs)) k 0 < q
+part-below q w xs i h k l =
+    let m : (k < w) × (i * w + k < length xs) = omega (arith, length-take w (drop (i * w) xs), length-drop (i * w) xs) in
+    subst (λ n. n < q) (sym (part-at w xs i k (m .0))) (h (i * w + k) (m .1))
