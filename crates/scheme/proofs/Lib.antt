@@ -16,4 +16,6 @@ pub mod Codec
 pub mod CodecCases
 pub mod Lwe
 pub mod Switch
+pub mod Phase
+pub mod Bound
 pub mod Tally
