@@ -18,4 +18,5 @@ pub mod Lwe
 pub mod Switch
 pub mod Phase
 pub mod Bound
+pub mod Same
 pub mod Tally
