@@ -2,6 +2,7 @@
 --     phase-linear       with any key the output phase is b minus Σ digit × the phase of the entry
 --     entry-phase        the phase of entry (i, j) of a generated key is sᵢ × weight j + e
 --     phase-switched     with a generated key the output phase is the input phase plus Σ sᵢεᵢ minus Σ digit·e
+--     phase-batch        the same for each row of a batch
 --     error-secret       the error counts modulo q with the secret modulo q,
 --     phase-taken-as     so the phase law holds with the secret taken as any numbers that agree with it modulo q,
 --     phase-nearest      with words as w or w − q, whichever is nearer zero
@@ -21,14 +22,14 @@ use Rattle.scheme.specs.Basis.{Basis, Accepted, weight}
 use Rattle.scheme.specs.Reading.{threshold, lift, reading, rounding}
 use Rattle.scheme.specs.Digits.{digit}
 use Rattle.scheme.specs.Lwe.{words, inner, phaseOf}
-use Rattle.scheme.specs.Switch.{entryNumber, entryOf, entryWord, placeSum, after, switched, generated, switchError, nearest}
+use Rattle.scheme.specs.Switch.{rowOf, entryNumber, entryOf, entryWord, placeSum, after, switched, switchedBatch, generated, switchError, nearest, Below}
 use Rattle.scheme.proofs.Integers.{⊖-eq, diff, diffs₂, diffs₃, diffs₄}
 use Rattle.scheme.proofs.Residue.{cong-refl, cong-of-eq, cong-trans, cong-add, cong-mul, cong-mul-left, cong-residue}
 use Rattle.scheme.proofs.Sums.{sum-ext, sum-add, sum-neg, sum-scale, sum-swap, sum-cong}
 use Rattle.scheme.proofs.Reading.{digits-sum}
 use Rattle.scheme.proofs.Rows.{part-length}
 use Rattle.scheme.proofs.Lwe.{cong-sub, stands, phase-fresh}
-use Rattle.scheme.proofs.Switch.{entry-word, generated-entry, start-mask, start-body, state-at}
+use Rattle.scheme.proofs.Switch.{entry-word, generated-entry, start-mask, start-body, state-at, row-below, batch-row}
 
 -- ---- sums over places and levels
 
@@ -254,6 +255,16 @@ module _ (b : Basis) (ok : Accepted b) (n m : ℕ) (s s′ e : ℕ → ℤ) (mas
         (pos (phaseOf (b .modulus) n x s) +ℤ switchError b n r e x)
     phase-taken-as r h =
         cong-trans phase-switched (cong-add (cong-refl (b .modulus) (pos (phaseOf (b .modulus) n x s))) (error-secret b n s r e x h))
+
+-- the phase law for each row of a batch
+pub phase-batch : (b : Basis) → Accepted b → (n m : ℕ) (s s′ e : ℕ → ℤ) (masks : List ℕ) → length masks ≡ n * b .levels * m
+    → (T : ℕ) (X : List ℕ) → length X ≡ T * (n + 1) → Below (b .modulus) X → (t : ℕ) → t < T → Cong (b .modulus)
+    (pos (phaseOf (b .modulus) m (rowOf m (switchedBatch b n m (generated b n m s s′ e masks) T X) t) s′))
+    (pos (phaseOf (b .modulus) n (rowOf n X t) s) +ℤ switchError b n s e (rowOf n X t))
+phase-batch b ok n m s s′ e masks lm T X lx below t h =
+    subst (λ y. Cong (b .modulus) (pos (phaseOf (b .modulus) m y s′)) (pos (phaseOf (b .modulus) n (rowOf n X t) s) +ℤ switchError b n s e (rowOf n X t)))
+    (sym (batch-row b n m (generated b n m s s′ e masks) T X t h))
+    (phase-switched b ok n m s s′ e masks lm (rowOf n X t) (λ i k. row-below (b .modulus) n T X t h lx below i (omega arith)))
 
 -- the phase law for a secret of words, taken as w or w − q, whichever is nearer zero
 pub phase-nearest : (b : Basis) → Accepted b → (n m : ℕ) (s : List ℕ) (s′ e : ℕ → ℤ) (masks : List ℕ) → length masks ≡ n * b .levels * m

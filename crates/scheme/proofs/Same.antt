@@ -27,8 +27,7 @@ use Rattle.scheme.proofs.Sums.{sum-ext, sum-zero, sum-single}
 use Rattle.scheme.proofs.Balanced.{balanced-from}
 use Rattle.scheme.proofs.Reading.{even, digit-range, same-digits, same-reading}
 use Rattle.scheme.proofs.Lists.{tabulate-ext}
-use Rattle.scheme.proofs.Rows.{part-length, part-below}
-use Rattle.scheme.proofs.Switch.{generated-mask, start-mask, start-body, state-at, batch-at}
+use Rattle.scheme.proofs.Switch.{generated-mask, start-mask, start-body, state-at, row-below, batch-at}
 
 -- balanced digits are told apart modulo q
 balanced-cong : (q h : ℕ) (x y : ℤ) → h + h ≤ q → Balanced h x → Balanced h y → Cong q x y → x ≡ y
@@ -190,9 +189,6 @@ module _ (b : Basis) (ok : Accepted b) (n m : ℕ) (s s′ e : ℕ → ℤ) (som
 
   -- ---- any two rows of any two batches
 
-  row-below : (T : ℕ) (X : List ℕ) (t : ℕ) → t < T → length X ≡ T * (n + 1) → Below (b .modulus) X → (i : ℕ) → i < n + 1 → getD (rowOf n X t) i 0 < b .modulus
-  row-below T X t h l w i k = part-below (b .modulus) (n + 1) X t w i (subst (λ z. i < z) (sym (part-length (n + 1) T X t l h)) k)
-
   -- the outputs are equal in every word for every choice of the masks exactly when the bodies are equal and the readings are at each place
   pub demand-3 : (T : ℕ) (X : List ℕ) (t U : ℕ) (Y : List ℕ) (u : ℕ) → length X ≡ T * (n + 1) → length Y ≡ U * (n + 1) → Below (b .modulus) X → Below (b .modulus) Y
       → t < T → u < U → Demand3 b n m s s′ e T X t U Y u
@@ -201,7 +197,7 @@ module _ (b : Basis) (ok : Accepted b) (n m : ℕ) (s s′ e : ℕ → ℤ) (som
     where
       there : OutputsAgree b n m s s′ e T X t U Y u → ReadingsAgree b n (rowOf n X t) (rowOf n Y u)
       there f =
-          alike-readings (rowOf n X t) (rowOf n Y u) (row-below T X t ht lx wx) (row-below U Y u hu ly wy)
+          alike-readings (rowOf n X t) (rowOf n Y u) (row-below (b .modulus) n T X t ht lx wx) (row-below (b .modulus) n U Y u hu ly wy)
           (λ masks l w c h.
           sym (batch-at b n m (generated b n m s s′ e masks) T X t c ht h) ∙ f masks l w c h ∙ batch-at b n m (generated b n m s s′ e masks) U Y u c hu h)
 

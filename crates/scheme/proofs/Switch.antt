@@ -1,9 +1,11 @@
 -- What holds of a key, of one switch and of a batch by their places, for any key, q above 0, dimensions, levels and basis.
 --     entry-word         word c of entry (i, j), handed out as a part of the key
 --     generated-length   a generated key has n × L × (m + 1) words,
+--     generated-part     entry k of it by its number,
 --     generated-entry    its entry (i, j) is an encryption of sᵢ × weight j with mask and error i × L + j,
 --     generated-mask     that begins with the lent mask,
---     generated-below    and its words are below q
+--     generated-below    its words are below q,
+--     generated-secret   and it depends on the secrets and errors modulo q only
 --     after-start        before the first place: (0, b)
 --     after-next         one place more
 --     after-ext          only the n + 1 words of the ciphertext count
@@ -13,6 +15,7 @@
 --     state-start        the first state, modulo q
 --     state-next         from each state to the next
 --     accumulate         one entry more, by a stored digit
+--     row-below          the words of a row are below q where those of its batch are
 --     batch-row          row t of a batch is the one switch of row t of its input,
 --     batch-apart        so no row depends on the others
 --     batch-at           word c of row t; batch-length, batch-below
@@ -20,10 +23,10 @@
 --     one-switch         a single ciphertext is a batch of one row
 -- Assumes nothing.
 use mathlib.Core.Path.{_≡_, refl, sym, _∙_, ap, ap₂, subst}
-use mathlib.Core.List.{List, [], _∷_}
-use Prim.Native.Nat.{ℕ, zero, suc, _+_, _*_, _<_, _≤_}
+use mathlib.Core.List.{List, [], _∷_, _++_}
+use Prim.Native.Nat.{ℕ, zero, suc, _+_, _*_, _/_, _%_, _<_, _≤_}
 use native.Mathlib.Omega.{arith}
-use native.Mathlib.Nat.{zero-mul}
+use native.Mathlib.Nat.{zero-mul, div-lt-iff-lt-mul}
 use native.Mathlib.Numerals.{add-one}
 use native.Mathlib.Decide.{ℕ-discrete}
 use lib.Arith.{digits-div, digits-mod, digits-lt}
@@ -38,10 +41,10 @@ use Rattle.scheme.specs.Digits.{digit}
 use Rattle.scheme.specs.Lwe.{inner, bodyOf, encrypted}
 use Rattle.scheme.specs.Switch.{rowOf, entryNumber, entryOf, entryWord, startWord, placeSum, after, stateAt, switched, switchedBatch, generatedEntry, generated, Below}
 use Rattle.scheme.proofs.Integers.{⊖-eq, diff, diffs₁, diffs₃}
-use Rattle.scheme.proofs.Residue.{cong-refl, cong-mul, residue-cong, residue-lt, word-residue}
-use Rattle.scheme.proofs.Sums.{sum-ext, sum-swap, sum-split}
+use Rattle.scheme.proofs.Residue.{cong-refl, cong-add, cong-mul-left, cong-mul, residue-cong, residue-lt, word-residue}
+use Rattle.scheme.proofs.Sums.{sum-ext, sum-swap, sum-split, sum-cong}
 use Rattle.scheme.proofs.Lists.{length-tabulate, getD-tabulate, tabulate-ext}
-use Rattle.scheme.proofs.Rows.{append-below, rows-length, rows-at, rows-part, rows-below, is-rows, part-at, part-length, part-below}
+use Rattle.scheme.proofs.Rows.{append-below, rows-ext, rows-length, rows-at, rows-part, rows-below, is-rows, part-at, part-length, part-below}
 use Rattle.scheme.proofs.Lwe.{cong-sub, stands}
 
 -- ---- the key
@@ -64,8 +67,16 @@ encrypted-below q n h a s e p w = append-below q a (bodyOf q n a s e p ∷ []) w
     last zero l = residue-lt (inner n a s +ℤ e +ℤ p) q h
     last (suc k) l = absurd (omega arith)
 
+-- a ciphertext depends on the secret, the error and the plaintext modulo q only
+pub encrypted-cong : (q n : ℕ) → 0 < q → (a : List ℕ) (s t : ℕ → ℤ) (e f p r : ℤ) → ((i : ℕ) → i < n → Cong q (s i) (t i)) → Cong q e f → Cong q p r
+    → encrypted q n a s e p ≡ encrypted q n a t f r
+unfolding encrypted bodyOf inner
+encrypted-cong q n h a s t e f p r c d g =
+    ap (λ w. a ++ (w ∷ [])) (residue-cong h (cong-add (cong-add (sum-cong q n _ _ (λ i k. cong-mul-left (pos (getD a i 0)) (c i k))) d) g))
+
 module _ (b : Basis) (n m : ℕ) (s s′ e : ℕ → ℤ) (masks : List ℕ) (lm : length masks ≡ n * b .levels * m) where
-  entry-length : (k : ℕ) → k < n * b .levels → length (generatedEntry b m s s′ e masks k) ≡ m + 1
+  -- each entry has m + 1 words
+  pub entry-length : (k : ℕ) → k < n * b .levels → length (generatedEntry b m s s′ e masks k) ≡ m + 1
   unfolding generatedEntry
   entry-length k h = encrypted-length (b .modulus) m (take m (drop (k * m) masks)) s′ _ _ ∙ ap (λ x. x + 1) (part-length m (n * b .levels) masks k lm h)
 
@@ -74,13 +85,18 @@ module _ (b : Basis) (n m : ℕ) (s s′ e : ℕ → ℤ) (masks : List ℕ) (lm
   unfolding generated
   generated-length = rows-length (generatedEntry b m s s′ e masks) (m + 1) (n * b .levels) entry-length
 
+  -- entry k = i × L + j
+  pub generated-part : (k : ℕ) → k < n * b .levels → rowOf m (generated b n m s s′ e masks) k ≡ generatedEntry b m s s′ e masks k
+  unfolding generated
+  generated-part k h = rows-part (generatedEntry b m s s′ e masks) (m + 1) (n * b .levels) entry-length k h
+
   -- entry (i, j) encrypts sᵢ × weight j, with mask and error i × L + j
   pub generated-entry : (i j : ℕ) → i < n → j < b .levels
       → entryOf (b .levels) m (generated b n m s s′ e masks) i j
       ≡ encrypted (b .modulus) m (take m (drop (entryNumber (b .levels) i j * m) masks)) s′ (e (entryNumber (b .levels) i j)) (s i *ℤ pos (weight b j))
-  unfolding generated generatedEntry
+  unfolding generatedEntry
   generated-entry i j h k =
-      rows-part (generatedEntry b m s s′ e masks) (m + 1) (n * b .levels) entry-length (i * b .levels + j) (digits-lt h k)
+      generated-part (i * b .levels + j) (digits-lt h k)
       ∙ ap₂ (λ x y. encrypted (b .modulus) m (take m (drop ((i * b .levels + j) * m) masks)) s′ (e (i * b .levels + j)) (s x *ℤ pos (weight b y)))
       (digits-div i k) (digits-mod i k)
 
@@ -100,6 +116,20 @@ module _ (b : Basis) (n m : ℕ) (s s′ e : ℕ → ℤ) (masks : List ℕ) (lm
   generated-below h w =
       rows-below (b .modulus) (n * b .levels) (generatedEntry b m s s′ e masks)
       (λ k l. encrypted-below (b .modulus) m h (take m (drop (k * m) masks)) s′ _ _ (part-below (b .modulus) m masks k w))
+
+-- a key depends on the secrets and errors modulo q only: a signed c stands for c modulo q
+pub generated-secret : (b : Basis) → 0 < b .modulus → (n m : ℕ) (s t s′ t′ e f : ℕ → ℤ) (masks : List ℕ)
+    → ((i : ℕ) → i < n → Cong (b .modulus) (s i) (t i)) → ((i : ℕ) → i < m → Cong (b .modulus) (s′ i) (t′ i)) → ((k : ℕ) → k < n * b .levels → Cong (b .modulus) (e k) (f k))
+    → generated b n m s s′ e masks ≡ generated b n m t t′ f masks
+unfolding generated generatedEntry
+generated-secret b h n m s t s′ t′ e f masks c d g =
+    rows-ext (n * b .levels) _ _ (λ k l.
+    encrypted-cong (b .modulus) m h (take m (drop (k * m) masks)) s′ t′ (e k) (f k) _ _ d (g k l)
+    (cong-mul (c (k / b .levels) (div-lt-iff-lt-mul (some (b .levels) k l) .1 l)) (cong-refl (b .modulus) (pos (weight b (k % b .levels))))))
+  where
+    some : (L k : ℕ) → k < n * L → 0 < L
+    some zero k l = absurd (omega arith)
+    some (suc L) k l = omega arith
 
 -- ---- one switch, place by place
 
@@ -204,6 +234,10 @@ unfolding stateAt
 state-ext b n m key x y h i l = tabulate-ext (m + 1) _ _ (λ c k. ap (λ z. residue z (b .modulus)) (after-ext b n m key x y h i c l))
 
 -- ---- the batch
+
+-- the words of a row are below q where those of the batch are
+pub row-below : (q n T : ℕ) (X : List ℕ) (t : ℕ) → t < T → length X ≡ T * (n + 1) → Below q X → (i : ℕ) → i < n + 1 → getD (rowOf n X t) i 0 < q
+row-below q n T X t h l w i k = part-below q (n + 1) X t w i (subst (λ z. i < z) (sym (part-length (n + 1) T X t l h)) k)
 
 module _ (b : Basis) (n m : ℕ) (key : List ℕ) (T : ℕ) (X : List ℕ) where
   -- T rows of m + 1 words
