@@ -1,5 +1,6 @@
 -- What holds of a key, of one switch and of a batch by their places, for any key, q above 0, dimensions, levels and basis.
 --     entry-word         word c of entry (i, j), handed out as a part of the key
+--     encrypted-cong     a ciphertext depends on secret, error and plaintext modulo q only; encrypted-length, encrypted-below
 --     generated-length   a generated key has n × L × (m + 1) words,
 --     generated-part     entry k of it by its number,
 --     generated-entry    its entry (i, j) is an encryption of sᵢ × weight j with mask and error i × L + j,
@@ -8,9 +9,10 @@
 --     generated-secret   and it depends on the secrets and errors modulo q only
 --     after-start        before the first place: (0, b)
 --     after-next         one place more
---     after-ext          only the n + 1 words of the ciphertext count
+--     after-ext          only the n + 1 words of the ciphertext count; state-ext: in the state too
 --     after-levels       the sum may be taken level by level,
---     after-group        also over a group of places at a time
+--     after-group        also over a group of places at a time,
+--     state-levels       and the state is the same
 --     state-at           word c of the state; state-length, state-below: its m + 1 words are below q
 --     state-start        the first state, modulo q
 --     state-next         from each state to the next
@@ -35,7 +37,7 @@ use lib.IntN.{ℤ, pos, _+ℤ_, _-ℤ_, _*ℤ_}
 use lib.ListN.{length, getD, take, drop, length-append, List·getD-append}
 use lib.Seq.{take-all}
 use borrow.Author.Tests.{eq-eqb, ne-eqb}
-use Rattle.scheme.specs.Numbers.{pick, residue, Cong, sumTo, rowsOf}
+use Rattle.scheme.specs.Numbers.{pick, residue, Cong, sumTo, tabulate, rowsOf}
 use Rattle.scheme.specs.Basis.{Basis, weight}
 use Rattle.scheme.specs.Digits.{digit}
 use Rattle.scheme.specs.Lwe.{inner, bodyOf, encrypted}
@@ -133,11 +135,12 @@ generated-secret b h n m s t s′ t′ e f masks c d g =
 
 -- ---- one switch, place by place
 
--- the words of (0, b)
+-- the mask words of (0, b)
 pub start-mask : (n m : ℕ) (x : List ℕ) (c : ℕ) → c < m → startWord n m x c ≡ 0
 unfolding startWord
 start-mask n m x c h = ap (λ t. pick t (getD x n 0) 0) (ne-eqb c m (λ z. omega arith))
 
+-- and its body
 pub start-body : (n m : ℕ) (x : List ℕ) → startWord n m x m ≡ getD x n 0
 unfolding startWord
 start-body n m x = ap (λ t. pick t (getD x n 0) 0) (eq-eqb m m refl)
@@ -196,6 +199,12 @@ module _ (b : Basis) (n m : ℕ) (key x : List ℕ) where
   unfolding stateAt
   state-at i c h = getD-tabulate (m + 1) (λ c. residue (after b n m key x i c) (b .modulus)) c h
 
+  -- the state by the sum taken level by level
+  pub state-levels : (i : ℕ) → stateAt b n m key x i
+      ≡ tabulate (m + 1) (λ c. residue (pos (startWord n m x c) -ℤ sumTo (b .levels) (λ j. sumTo i (λ i. digit b (getD x i 0) j *ℤ pos (entryWord (b .levels) m key i j c)))) (b .modulus))
+  unfolding stateAt
+  state-levels i = tabulate-ext (m + 1) _ _ (λ c h. ap (λ z. residue z (b .modulus)) (after-levels i c))
+
   module _ (hq : 0 < b .modulus) where
     -- its words are below q
     pub state-below : (i : ℕ) → Below (b .modulus) (stateAt b n m key x i)
@@ -228,6 +237,7 @@ after-ext b n m key x y h i c l =
     ap₂ (λ w z. pos (pick (eqb c m) w 0) -ℤ z) (h n (omega arith))
     (sum-ext i _ _ (λ k o. ap (λ a. placeSum b m key a k c) (h k (omega arith))))
 
+-- the same for the state
 pub state-ext : (b : Basis) (n m : ℕ) (key x y : List ℕ) → ((k : ℕ) → k < n + 1 → getD x k 0 ≡ getD y k 0) → (i : ℕ) → i ≤ n
     → stateAt b n m key x i ≡ stateAt b n m key y i
 unfolding stateAt
