@@ -15,5 +15,9 @@ pub mod InPlace
 pub mod Codec
 pub mod CodecCases
 pub mod Lwe
+pub mod Switch
+pub mod Phase
+pub mod Bound
+pub mod Same
 pub mod Tally
 pub mod Extract
