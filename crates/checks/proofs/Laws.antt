@@ -4,14 +4,14 @@ use mathlib.Core.Path.{_≡_, refl, sym, ap, _∙_}
 use mathlib.Core.Bool.{Bool, true, false, not, _&&_}
 use mathlib.Core.List.{List, [], _∷_, _++_}
 use Prim.Native.Nat.{ℕ, zero, suc, _+_, _*_, _-_, _/_, _%_, _≤_, _<_}
-use native.Mathlib.Nat.{mul-zero, mul-mod-left, mul-div-cancel, div-add-mod}
+use native.Mathlib.Nat.{mul-zero, mul-mod-left, mul-div-cancel, div-add-mod, mod-eq-of-lt, div-eq-of-lt}
 use native.Mathlib.Numerals.{add-one}
 use native.Mathlib.Omega.{arith}
 use lib.Dec.{eqb, ltb}
 use lib.ListN.{length, getD, take}
 use lib.Seq.{take-suc, take-all}
 use borrow.Author.Tests.{eq-eqb, ne-eqb, eqb-true, eqb-false, lt-ltb, le-ltb}
-use Rattle.scheme.specs.Checks.{allOf, lengthFails, wordsFail}
+use Rattle.scheme.specs.Checks.{allOf, lengthFails, batchFails, wordsFail}
 
 -- two equations that hold together
 eqb-iff : (a b c d : ℕ) → (a ≡ b → c ≡ d) → (c ≡ d → a ≡ b) → eqb a b ≡ eqb c d
@@ -101,3 +101,11 @@ all-below q (x ∷ xs) h = rw (lt-ltb x q (h 0)) (all-below q xs (λ i. h (suc i
 pub words-below : (q : ℕ) (xs : List ℕ) → ((i : ℕ) → getD xs i 0 < q) → false ≡ wordsFail q xs
 unfolding wordsFail
 words-below q xs h = sym (ap not (all-below q xs h))
+
+-- ---- batches of n + 1 words a row
+
+pub batch-short : (len n : ℕ) → len ≤ n → not (eqb len 0) ≡ batchFails len n
+batch-short len n h = ap (λ x. not (eqb x 0)) (sym (mod-eq-of-lt {m = n + 1} (omega arith)))
+
+pub count-short : (len n : ℕ) → len ≤ n → 0 ≡ len / (n + 1)
+count-short len n h = sym (div-eq-of-lt (omega arith))

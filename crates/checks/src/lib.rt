@@ -1,7 +1,7 @@
 // Checks that several calls share, each exact for every input, and the chain that keeps the first number.
 ghost use mathlib.Core.Path.{_≡_};
-ghost use Prim.Native.Nat.{_+_, _*_};
-ghost use Rattle.scheme.specs.Checks.{modulusFails, plaintextFails, smallFails, lengthFails, boundFails, wordFails, wordsFail, magnitudesFail, signedFail, errorsFail, coefficientsFail, messageFails, messagesFail};
+ghost use Prim.Native.Nat.{_+_, _*_, _/_};
+ghost use Rattle.scheme.specs.Checks.{modulusFails, plaintextFails, smallFails, lengthFails, batchFails, boundFails, wordFails, wordsFail, magnitudesFail, signedFail, errorsFail, coefficientsFail, messageFails, messagesFail};
 ghost use Rattle.primus_reduce.specs.Ring.{meant, sizeOf};
 ghost use Rattle.checks.specs.Refuse.{Next};
 use primus_reduce::Modulus;
@@ -165,4 +165,24 @@ pub fn messages_refused(t: u32, s: &[u32]) -> bool
     ensures { λ r. ⌜ r ≡ messagesFail t (now (s .entry)) ⌝ }
 {
     any_refused(s, t)
+}
+
+// 10: `len` is not a multiple of n + 1. No sum where it could overflow.
+pub fn batch_differs(len: usize, n: usize) -> bool
+    ensures { λ r. ⌜ r ≡ batchFails len n ⌝ }
+{
+    if len <= n {
+        return len != 0;
+    }
+    len % (n + 1) != 0
+}
+
+// The number of ciphertexts of n + 1 words that fit.
+pub fn batch_count(len: usize, n: usize) -> usize
+    ensures { λ r. ⌜ r ≡ len / (n + 1) ⌝ }
+{
+    if len <= n {
+        return 0;
+    }
+    len / (n + 1)
 }

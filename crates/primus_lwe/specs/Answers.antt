@@ -2,10 +2,10 @@
 use mathlib.Core.Bool.{Bool}
 use mathlib.Core.List.{List, [], _∷_, _++_}
 use mathlib.Core.Path.{_≡_}
-use Prim.Native.Nat.{ℕ, _+_, _-_, _<_, _≤_}
+use Prim.Native.Nat.{ℕ, _+_, _*_, _-_, _<_, _≤_}
 use lib.Dec.{eqb}
 use lib.IntN.{ℤ, pos, _+ℤ_, _-ℤ_}
-use lib.ListN.{length, getD}
+use lib.ListN.{length, getD, take, drop}
 use Rattle.scheme.specs.Numbers.{pick, residue}
 use Rattle.scheme.specs.Lwe.{phaseOf}
 use Rattle.scheme.specs.Codec.{decode}
@@ -183,3 +183,15 @@ packedRows P s a es ps room =
 
 unfoldable pub packedRefusal : LweEncryptionParameters → List ℕ → List ℕ → List ℤ → List ℕ → ℕ → ℕ
 packedRefusal P s a es ps room = firstOf (packedRows P s a es ps room)
+
+-- ---- runs of ciphertexts
+
+-- what writing a run asks, of n and the lengths of masks, errors and output: a row for each error
+pub record Run (q n masks errors room : ℕ) : Type 0 where
+  pub positive : 0 < q
+  pub each : masks ≡ errors * n
+  pub rooms : room ≡ errors * (n + 1)
+
+-- xs with its n words from `at` on replaced by ys
+abbrev pub replaced : List ℕ → ℕ → ℕ → List ℕ → List ℕ
+replaced xs at n ys = take at xs ++ (ys ++ drop n (drop at xs))

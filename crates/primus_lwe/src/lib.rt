@@ -1,4 +1,5 @@
 // LWE encryption over words of 32 bits. Random masks and errors are lent.
+mod batch;
 mod parameter;
 mod secret_key;
 

@@ -1,7 +1,7 @@
 // Encryption and phases under a secret key: words below q, or signed numbers c that stand for c modulo q.
-mod borrowed;
-mod message;
-mod packed;
+pub(crate) mod borrowed;
+pub(crate) mod message;
+pub(crate) mod packed;
 
 pub use borrowed::PhaseAnswer;
 pub use borrowed::decrypt_phase;

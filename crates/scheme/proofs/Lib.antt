@@ -19,5 +19,6 @@ pub mod Switch
 pub mod Phase
 pub mod Bound
 pub mod Same
+pub mod Public
 pub mod Tally
 pub mod Extract

@@ -2,7 +2,7 @@
 use mathlib.Core.Path.{_≡_}
 use mathlib.Core.Bool.{Bool, true, false, not, _||_, _&&_}
 use mathlib.Core.List.{List, [], _∷_}
-use Prim.Native.Nat.{ℕ, zero, suc, _+_, _*_, _/_, _^_}
+use Prim.Native.Nat.{ℕ, zero, suc, _+_, _*_, _/_, _%_, _^_}
 use lib.Dec.{leb, ltb, eqb}
 use lib.IntN.{ℤ, natAbs}
 use lib.ListN.{length}
@@ -95,6 +95,10 @@ countFails c n = ltb n c
 -- "(fewer than n words in a packed input count here)", of a packed input of `len` words
 abbrev pub packedFails : ℕ → ℕ → Bool
 packedFails len n = ltb len n || ltb (n + n) len
+
+-- "10. … a batch is not a multiple of it", of `len` words
+abbrev pub batchFails : ℕ → ℕ → Bool
+batchFails len n = not (eqb (len % (n + 1)) 0)
 
 -- "13. E is above 1,048,576, or not below q."
 abbrev pub boundFails : ℕ → ℕ → Bool
