@@ -10,7 +10,7 @@ use native.Mathlib.Omega.{arith}
 use lib.Dec.{eqb, ltb}
 use lib.ListN.{length, getD, take}
 use lib.Seq.{take-suc, take-all}
-use borrow.Author.Tests.{eq-eqb, ne-eqb, eqb-true, eqb-false, lt-ltb, le-ltb}
+use borrow.Author.Tests.{eq-eqb, ne-eqb, eqb-true, eqb-false, lt-ltb, le-ltb, not-false}
 use Rattle.scheme.specs.Checks.{allOf, lengthFails, batchFails, wordsFail}
 
 -- two equations that hold together
@@ -109,3 +109,11 @@ batch-short len n h = ap (λ x. not (eqb x 0)) (sym (mod-eq-of-lt {m = n + 1} (o
 
 pub count-short : (len n : ℕ) → len ≤ n → 0 ≡ len / (n + 1)
 count-short len n h = sym (div-eq-of-lt (omega arith))
+
+-- `count` rows of n + 1 words
+module _ (len count n : ℕ) where
+  pub rows-cut : batchFails len n ≡ true → true ≡ lengthFails len (count * (n + 1))
+  rows-cut e = runs-cut len count (n + 1) (λ z. let f : true ≡ false = sym e ∙ ap not (eq-eqb (len % (n + 1)) 0 z) in cc)
+
+  pub rows-whole : (k : ℕ) → batchFails len n ≡ false → k ≡ len / (n + 1) → not (eqb k count) ≡ lengthFails len (count * (n + 1))
+  rows-whole k e f = ap (λ k. not (eqb k count)) f ∙ runs-whole len count (n + 1) (λ z. omega arith) (eqb-true (len % (n + 1)) 0 (not-false _ e))

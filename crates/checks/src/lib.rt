@@ -186,3 +186,13 @@ pub fn batch_count(len: usize, n: usize) -> usize
     }
     len / (n + 1)
 }
+
+// 11: `len` is not `count` ciphertexts of n + 1 words.
+pub fn ciphertexts_differ(len: usize, count: usize, n: usize) -> bool
+    ensures { λ r. ⌜ r ≡ lengthFails len (count * (n + 1)) ⌝ }
+{
+    if batch_differs(len, n) {
+        return true;
+    }
+    batch_count(len, n) != count
+}

@@ -9,7 +9,7 @@ use lib.ListN.{length, getD, take, drop}
 use Rattle.scheme.specs.Numbers.{pick, residue}
 use Rattle.scheme.specs.Lwe.{phaseOf}
 use Rattle.scheme.specs.Codec.{decode}
-use Rattle.scheme.specs.Checks.{Check, row, firstOf, modulusFails, dimensionFails, plaintextFails, smallFails, lengthFails, countFails, packedFails, boundFails, wordFails, wordsFail, errorsFail, messageFails}
+use Rattle.scheme.specs.Checks.{Check, row, firstOf, modulusFails, dimensionFails, plaintextFails, smallFails, lengthFails, countFails, packedFails, boundFails, wordFails, wordsFail, errorsFail, coefficientsFail, messageFails, messagesFail}
 use Rattle.primus_reduce.specs.Ring.{meant, sizeOf, modulo}
 use Rattle.primus_reduce.specs.declared.modulus.Modulus.{Modulus}
 use Rattle.primus_lwe.specs.declared.parameter.LweEncryptionParameters.{LweEncryptionParameters}
@@ -195,3 +195,71 @@ pub record Run (q n masks errors room : ℕ) : Type 0 where
 -- xs with its n words from `at` on replaced by ys
 abbrev pub replaced : List ℕ → ℕ → ℕ → List ℕ → List ℕ
 replaced xs at n ys = take at xs ++ (ys ++ drop n (drop at xs))
+
+-- ---- the public key
+
+-- a generation from a key of `len` numbers, of which check 14 says `bad`
+abbrev pub generateRows : LweEncryptionParameters → ℕ → Bool → List ℕ → List ℤ → ℕ → List Check
+generateRows P len bad masks es room =
+    row (modulusFails (meant (P .modulus))) 2
+    ∷ row (dimensionFails (P .dimension .0)) 6
+    ∷ row (lengthFails len (P .dimension .0)) 9
+    ∷ row (lengthFails room (P .dimension .0 * (P .dimension .0 + 1))) 11
+    ∷ row (lengthFails (length masks) (P .dimension .0 * P .dimension .0)) 12
+    ∷ row (lengthFails (length es) (P .dimension .0)) 12
+    ∷ row (boundFails (sizeOf (P .modulus)) (P .bound)) 13
+    ∷ row bad 14
+    ∷ row (wordsFail (sizeOf (P .modulus)) masks) 14
+    ∷ row (errorsFail (P .bound) es) 15
+    ∷ []
+
+unfoldable pub generateRefusal : LweEncryptionParameters → ℕ → Bool → List ℕ → List ℤ → ℕ → ℕ
+generateRefusal P len bad masks es room = firstOf (generateRows P len bad masks es room)
+
+-- an encryption of p with the errors es and the coefficients rs
+abbrev pub publicRows : LweEncryptionParameters → List ℕ → List ℤ → List ℤ → ℕ → ℕ → List Check
+publicRows P key es rs p room =
+    row (modulusFails (meant (P .modulus))) 2
+    ∷ row (dimensionFails (P .dimension .0)) 6
+    ∷ row (lengthFails (length key) (P .dimension .0 * (P .dimension .0 + 1))) 9
+    ∷ row (lengthFails room (P .dimension .0 + 1)) 11
+    ∷ row (lengthFails (length es) (P .dimension .0 + 1)) 12
+    ∷ row (lengthFails (length rs) (P .dimension .0)) 12
+    ∷ row (boundFails (sizeOf (P .modulus)) (P .bound)) 13
+    ∷ row (wordsFail (sizeOf (P .modulus)) key) 14
+    ∷ row (wordFails (sizeOf (P .modulus)) p) 14
+    ∷ row (errorsFail (P .bound) es) 15
+    ∷ row (coefficientsFail rs) 15
+    ∷ []
+
+unfoldable pub publicRefusal : LweEncryptionParameters → List ℕ → List ℤ → List ℤ → ℕ → ℕ → ℕ
+publicRefusal P key es rs p room = firstOf (publicRows P key es rs p room)
+
+-- of the message x below t
+abbrev pub publicMessageRows : LweParameters → List ℕ → List ℤ → List ℤ → ℕ → ℕ → List Check
+publicMessageRows P key es rs x room =
+    row (modulusFails (meant (P .modulus))) 2
+    ∷ row (dimensionFails (P .dimension .0)) 6
+    ∷ row (plaintextFails (P .«plaintext_modulus»)) 7
+    ∷ row (smallFails (P .«plaintext_modulus») (meant (P .modulus))) 8
+    ∷ row (lengthFails (length key) (P .dimension .0 * (P .dimension .0 + 1))) 9
+    ∷ row (lengthFails room (P .dimension .0 + 1)) 11
+    ∷ row (lengthFails (length es) (P .dimension .0 + 1)) 12
+    ∷ row (lengthFails (length rs) (P .dimension .0)) 12
+    ∷ row (boundFails (sizeOf (P .modulus)) (P .bound)) 13
+    ∷ row (wordsFail (sizeOf (P .modulus)) key) 14
+    ∷ row (errorsFail (P .bound) es) 15
+    ∷ row (coefficientsFail rs) 15
+    ∷ row (messageFails (P .«plaintext_modulus») x) 16
+    ∷ []
+
+unfoldable pub publicMessageRefusal : LweParameters → List ℕ → List ℤ → List ℤ → ℕ → ℕ → ℕ
+publicMessageRefusal P key es rs x room = firstOf (publicMessageRows P key es rs x room)
+
+-- what writing a public-key encryption asks, of n and the lengths of key, errors, coefficients and output
+pub record Public (q n key errors coefficients room : ℕ) : Type 0 where
+  pub positive : 0 < q
+  pub rows : key ≡ n * (n + 1)
+  pub noise : errors ≡ n + 1
+  pub each : coefficients ≡ n
+  pub fits : room ≡ n + 1
