@@ -159,7 +159,7 @@ phasable P len bad x e =
 
 -- ---- the codec, whose checks have passed
 
-none-fails : (cs : List Check) → Passes cs → firstOf cs ≡ 0
+pub none-fails : (cs : List Check) → Passes cs → firstOf cs ≡ 0
 unfolding firstOf
 none-fails [] p = refl
 none-fails (c ∷ cs) p = rw (p .0) (none-fails cs (p .1))

@@ -4,7 +4,7 @@ use mathlib.Core.List.{List, [], _∷_, _++_}
 use mathlib.Core.Path.{_≡_}
 use Prim.Native.Nat.{ℕ, _+_, _*_, _-_, _<_, _≤_}
 use lib.Dec.{eqb}
-use lib.IntN.{ℤ, pos, _+ℤ_, _-ℤ_}
+use lib.IntN.{ℤ, pos, natAbs, _+ℤ_, _-ℤ_, _*ℤ_}
 use lib.ListN.{length, getD, take, drop}
 use Rattle.scheme.specs.Numbers.{pick, residue}
 use Rattle.scheme.specs.Lwe.{phaseOf}
@@ -256,10 +256,18 @@ publicMessageRows P key es rs x room =
 unfoldable pub publicMessageRefusal : LweParameters → List ℕ → List ℤ → List ℤ → ℕ → ℕ → ℕ
 publicMessageRefusal P key es rs x room = firstOf (publicMessageRows P key es rs x room)
 
--- what writing a public-key encryption asks, of n and the lengths of key, errors, coefficients and output
-pub record Public (q n key errors coefficients room : ℕ) : Type 0 where
+-- what writing a public-key encryption asks, of n coefficients
+pub record Public (q n : ℕ) (key : List ℕ) (es rs : List ℤ) (room : ℕ) : Type 0 where
   pub positive : 0 < q
-  pub rows : key ≡ n * (n + 1)
-  pub noise : errors ≡ n + 1
-  pub each : coefficients ≡ n
+  pub rows : length key ≡ n * (n + 1)
+  pub noise : length es ≡ n + 1
   pub fits : room ≡ n + 1
+  pub small : (i : ℕ) → i < n → natAbs (getD rs i (pos 0)) < 2
+
+-- x + r × y modulo q
+abbrev pub plusTimes : ℕ → ℤ → ℕ → ℕ → ℕ
+plusTimes q r x y = residue (pos x +ℤ r *ℤ pos y) q
+
+-- word k of the errors f with p added to the body
+unfoldable pub startWord : ℕ → ℕ → (ℕ → ℤ) → ℕ → ℕ → ℕ
+startWord q n f p k = residue (f k +ℤ pick (eqb k n) (pos p) (pos 0)) q

@@ -1,12 +1,14 @@
 // LWE encryption over words of 32 bits. Random masks and errors are lent.
 mod batch;
 mod parameter;
+mod public_key;
 mod secret_key;
 
 pub use parameter::LweEncryptionParameters;
 pub use parameter::LweEncryptionParametersAnswer;
 pub use parameter::LweParameters;
 pub use parameter::LweParametersAnswer;
+pub use public_key::LwePublicKey;
 pub use secret_key::MessageAnswer;
 pub use secret_key::PhaseAnswer;
 pub use secret_key::decrypt_message;
