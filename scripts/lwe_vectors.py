@@ -865,6 +865,18 @@ def accepted(call):
     yield call.make(Pick(draw, 2**32 - 5, 16))
 
 
+def embeddings(call):
+    """Messages of t/2 where q is odd and t even: Centered is one less than Unsigned."""
+    if 16 not in call.fields:
+        return
+    draw = Draw(700 + call.kind)
+    for modulus in (17, 2**31 - 1, 2**32 - 5):
+        for t in (2, 4, 16):
+            k = call.make(Pick(draw, modulus, 2, t=t))
+            message = {"c": [t // 2] * len(k.c)} if "c" in call.fields[16] else {"value": t // 2}
+            yield from (replace(k, centered=centered, **message) for centered in (False, True))
+
+
 def bounds(call):
     """E at its limits, with errors of ±E."""
     if not call.takes_E:
@@ -1042,6 +1054,7 @@ def cases(call):
     if isinstance(call, Mark):
         yield from marks()
     yield from accepted(call)
+    yield from embeddings(call)
     yield from bounds(call)
     yield from signed_keys(call)
     yield from counts(call)
