@@ -67,3 +67,73 @@ fn place(
         j += 1;
     }
 }
+
+// B / 2
+fn half_of(log: u32) -> u32
+    requires { ⌜ (2 ≤ log) × (log < 32) ⌝ }
+    ensures { λ r. ⌜ r ≡ 2 ^ log / 2 ⌝ }
+{
+    1 << (log - 1)
+}
+
+// L × (B / 2) × q: the most that a place adds to an accumulator
+fn cost_of(levels: usize, half: u32, q: u32) -> u64
+    requires { ⌜ (1 ≤ levels) × (levels * (half * q) < 2 ^ 64) ⌝ }
+    ensures { λ r. ⌜ r ≡ levels * (half * q) ⌝ }
+{
+    levels as u64 * (half as u64 * q as u64)
+}
+
+// The rows go through all n places. No accumulator is above `bound`.
+fn walk(
+    acc: &mut [u64],
+    input: &[u32],
+    key: &[u32],
+    n: usize,
+    m: usize,
+    rows: usize,
+    q: u32,
+    p: PreparedBasis,
+)
+    requires { ⌜ (rows ≤ 8) × Shaped p n m rows (now input) (now key) × (p .modulus ≡ Explicit q) × (now acc ≡ begun n m rows (now input)) ⌝ }
+    ensures { λ _. ⌜ Reached p n m rows n (now (input .entry)) (now (key .entry)) (now (acc .exit)) ⌝ }
+{
+    let levels = p.level_count;
+    let half = half_of(p.log_basis);
+    let width = m + 1;
+    let cost = cost_of(levels, half, q);
+    let limit = 0xffff_ffff_ffff_ffff - cost;
+    let span = levels * width;
+    let mut bound = q as u64;
+    let mut at = 0;
+    let mut i = 0;
+    while i < n {
+        bound = accumulate::keep_room(acc, bound, limit, q);
+        let lanes = tile::lanes_of(input, n, i, rows, p);
+        place(acc, key, at, width, lanes, rows, levels, half, q);
+        bound += cost;
+        at += span;
+        i += 1;
+    }
+}
+
+// Switches the rows; acc is room for their accumulators.
+pub(crate) fn switch_tile(
+    acc: &mut [u64],
+    out: &mut [u32],
+    input: &[u32],
+    key: &[u32],
+    n: usize,
+    m: usize,
+    rows: usize,
+    q: u32,
+    p: PreparedBasis,
+)
+    requires { ⌜ (rows ≤ 8) × Shaped p n m rows (now input) (now key) × (p .modulus ≡ Explicit q) × (length (now acc) ≡ rows * (m + 1)) × (length (now out) ≡ rows * (m + 1)) ⌝ }
+    ensures { λ _. ⌜ now (out .exit) ≡ switchedBatch (basisIn p) n m (now (key .entry)) rows (now (input .entry)) ⌝ }
+{
+    tile::start(out, input, n, m, rows);
+    accumulate::load(acc, out);
+    walk(acc, input, key, n, m, rows, q, p);
+    accumulate::reduce_to(out, acc, q);
+}

@@ -1,9 +1,14 @@
 // The native modulus, 2^32: words add and multiply with wrap, on purpose.
 ghost use mathlib.Core.Path.{_≡_};
-ghost use Prim.Native.Nat.{_+_, _-_, _*_, _%_, _^_};
+ghost use Prim.Native.Nat.{_+_, _-_, _*_, _%_, _^_, _≤_};
 ghost use lib.ListN.{length};
 ghost use Rattle.key_switch.specs.Rows.{Less};
-ghost use Rattle.key_switch.specs.Tile.{Level, Leveled, Place, Placed};
+ghost use Rattle.scheme.specs.Switch.{switchedBatch};
+ghost use Rattle.primus_reduce.specs.declared.modulus.Modulus.the-variants.{Native};
+ghost use Rattle.primus_decompose.specs.Params.{basisIn};
+ghost use Rattle.key_switch.specs.Tile.{Level, Leveled, Place, Placed, Shaped, begun};
+use crate::tile;
+use primus_decompose::PreparedBasis;
 use primus_decompose::SignedDecomposer;
 use primus_reduce::wrapping_mul;
 
@@ -77,4 +82,47 @@ fn place(
         at = end;
         j += 1;
     }
+}
+
+// The rows go through all n places.
+fn walk(
+    out: &mut [u32],
+    input: &[u32],
+    key: &[u32],
+    n: usize,
+    m: usize,
+    rows: usize,
+    p: PreparedBasis,
+)
+    requires { ⌜ (rows ≤ 8) × Shaped p n m rows (now input) (now key) × (p .modulus ≡ Native) × (now out ≡ begun n m rows (now input)) ⌝ }
+    ensures { λ _. ⌜ now (out .exit) ≡ switchedBatch (basisIn p) n m (now (key .entry)) rows (now (input .entry)) ⌝ }
+{
+    let levels = p.level_count;
+    let width = m + 1;
+    let span = levels * width;
+    let mut at = 0;
+    let mut i = 0;
+    while i < n {
+        let lanes = tile::lanes_of(input, n, i, rows, p);
+        place(out, key, at, width, lanes, rows, levels);
+        at += span;
+        i += 1;
+    }
+}
+
+// Switches the rows; the output is its own accumulator.
+pub(crate) fn switch_tile(
+    out: &mut [u32],
+    input: &[u32],
+    key: &[u32],
+    n: usize,
+    m: usize,
+    rows: usize,
+    p: PreparedBasis,
+)
+    requires { ⌜ (rows ≤ 8) × Shaped p n m rows (now input) (now key) × (p .modulus ≡ Native) × (length (now out) ≡ rows * (m + 1)) ⌝ }
+    ensures { λ _. ⌜ now (out .exit) ≡ switchedBatch (basisIn p) n m (now (key .entry)) rows (now (input .entry)) ⌝ }
+{
+    tile::start(out, input, n, m, rows);
+    walk(out, input, key, n, m, rows, p);
 }
