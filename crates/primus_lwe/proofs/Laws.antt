@@ -19,7 +19,7 @@ use Rattle.scheme.proofs.Residue.{residue-lt, cong-refl, cong-of-eq, cong-trans
 use Rattle.scheme.proofs.Lists.{length-tabulate, getD-tabulate}
 use Rattle.scheme.proofs.Sums.{sum-ext}
 use Rattle.scheme.proofs.Lwe.{cong-sub, stands}
-use Rattle.scheme.proofs.Checks.{Passes, passed, modulus-ok, length-ok}
+use Rattle.scheme.proofs.Checks.{Passes, passed, modulus-ok, length-ok, packed-ok}
 use Rattle.primus_reduce.specs.Ring.{meant, sizeOf, modulo}
 use Rattle.primus_reduce.specs.Dot.{dot, dotSigned}
 use Rattle.primus_reduce.specs.declared.modulus.Modulus.{Modulus}
@@ -159,7 +159,7 @@ phasable P len bad x e =
 
 -- ---- the codec, whose checks have passed
 
-none-fails : (cs : List Check) → Passes cs → firstOf cs ≡ 0
+pub none-fails : (cs : List Check) → Passes cs → firstOf cs ≡ 0
 unfolding firstOf
 none-fails [] p = refl
 none-fails (c ∷ cs) p = rw (p .0) (none-fails cs (p .1))
@@ -294,14 +294,6 @@ module _ (q n i : ℕ) (h : 0 < q) (a : List ℕ) (s : ℕ → ℤ) where
   unfolding packedPhase
   packed-is x ex e = e ∙ rw (ne-eqb q 0 (λ f. omega arith)) (residue-cong h (cong-sub (cong-refl q (pos (getD a (n + i) 0))) (modulo-stands h (rotated n a s i) ex)))
 
--- n + n < len, told from n < len − n
-pub bodies-above : (len n : ℕ) → n ≤ len → ltb n (len - n) ≡ (ltb len n || ltb (n + n) len)
-bodies-above len n h = go (ltb n (len - n)) refl
-  where
-    go : (b : Bool) → ltb n (len - n) ≡ b → b ≡ (ltb len n || ltb (n + n) len)
-    go true e = rw (le-ltb len n h, lt-ltb (n + n) len (omega (arith, ltb-true n (len - n) e)))
-    go false e = rw (le-ltb len n h, le-ltb (n + n) len (omega (arith, ltb-false n (len - n) e)))
-
 pub record PhasablePacked (m : Modulus) (n len words room : ℕ) : Type 0 where
   pub positive : 0 < sizeOf m
   pub key : len ≡ n
@@ -315,18 +307,9 @@ unfolding packedPhaseRefusal
 phasable-packed P s x room e =
     let (two, (six, (nine, (ten, (eleven, rest))))) = passed (packedPhaseRows P s x room) tt e in
     let n : ℕ = P .dimension .0 in
-    let l : n ≤ length x = ltb-false (length x) n (or-left (ltb (length x) n) (ltb (n + n) (length x)) ten) in
-    let u : length x ≤ n + n = ltb-false (n + n) (length x) (or-right (ltb (length x) n) (ltb (n + n) (length x)) ten) in
+    let (l, u) = packed-ok (length x) n ten in
     let c : room ≡ length x - n = length-ok _ _ eleven in
     record { positive = omega (arith, modulus-ok 32 (meant (P .modulus)) (omega arith) two); key = length-ok _ _ nine; bodies = omega arith; whole = omega arith; count = c }
-  where
-    or-left : (a b : Bool) → (a || b) ≡ false → a ≡ false
-    or-left true b e = e
-    or-left false b e = refl
-
-    or-right : (a b : Bool) → (a || b) ≡ false → b ≡ false
-    or-right true b e = let z : true ≡ false = e in cc
-    or-right false b e = e
 
 -- body i, from the words that stand for its mask product and its error
 pub packed-body-is : (q n : ℕ) (a : List ℕ) (s : ℕ → ℤ) (e : ℤ) (i p x w y : ℕ) {r : ℕ} → 0 < q → x ≡ modulo q (rotated n a s i) → w ≡ modulo q e

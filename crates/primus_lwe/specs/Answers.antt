@@ -2,16 +2,18 @@
 use mathlib.Core.Bool.{Bool}
 use mathlib.Core.List.{List, [], _∷_, _++_}
 use mathlib.Core.Path.{_≡_}
-use Prim.Native.Nat.{ℕ, _+_, _*_, _-_, _<_, _≤_}
+use Prim.Native.Nat.{ℕ, _+_, _*_, _-_, _/_, _<_, _≤_}
 use lib.Dec.{eqb}
-use lib.IntN.{ℤ, pos, _+ℤ_, _-ℤ_}
+use lib.IntN.{ℤ, pos, natAbs, _+ℤ_, _-ℤ_, _*ℤ_}
 use lib.ListN.{length, getD, take, drop}
 use Rattle.scheme.specs.Numbers.{pick, residue}
 use Rattle.scheme.specs.Lwe.{phaseOf}
 use Rattle.scheme.specs.Codec.{decode}
-use Rattle.scheme.specs.Checks.{Check, row, firstOf, modulusFails, dimensionFails, plaintextFails, smallFails, lengthFails, countFails, packedFails, boundFails, wordFails, wordsFail, errorsFail, coefficientsFail, messageFails, messagesFail}
+use Rattle.scheme.specs.Checks.{Check, row, firstOf, codecRefusal, modulusFails, dimensionFails, plaintextFails, smallFails, lengthFails, countFails, packedFails, batchFails, boundFails, wordFails, wordsFail, errorsFail, coefficientsFail, messageFails, messagesFail}
 use Rattle.primus_reduce.specs.Ring.{meant, sizeOf, modulo}
 use Rattle.primus_reduce.specs.declared.modulus.Modulus.{Modulus}
+use Rattle.primus_encoding.specs.declared.PlaintextEmbedding.{PlaintextEmbedding}
+use Rattle.primus_encoding.specs.Answers.{encodeWord, encodeRows, decodeRows}
 use Rattle.primus_lwe.specs.declared.parameter.LweEncryptionParameters.{LweEncryptionParameters}
 use Rattle.primus_lwe.specs.declared.parameter.LweEncryptionParametersAnswer.{LweEncryptionParametersAnswer}
 use Rattle.primus_lwe.specs.declared.parameter.LweEncryptionParametersAnswer.the-variants as E
@@ -256,10 +258,135 @@ publicMessageRows P key es rs x room =
 unfoldable pub publicMessageRefusal : LweParameters → List ℕ → List ℤ → List ℤ → ℕ → ℕ → ℕ
 publicMessageRefusal P key es rs x room = firstOf (publicMessageRows P key es rs x room)
 
--- what writing a public-key encryption asks, of n and the lengths of key, errors, coefficients and output
-pub record Public (q n key errors coefficients room : ℕ) : Type 0 where
+-- what writing a public-key encryption asks, of n coefficients
+pub record Public (q n : ℕ) (key : List ℕ) (es rs : List ℤ) (room : ℕ) : Type 0 where
   pub positive : 0 < q
-  pub rows : key ≡ n * (n + 1)
-  pub noise : errors ≡ n + 1
-  pub each : coefficients ≡ n
+  pub rows : length key ≡ n * (n + 1)
+  pub noise : length es ≡ n + 1
   pub fits : room ≡ n + 1
+  pub small : (i : ℕ) → i < n → natAbs (getD rs i (pos 0)) < 2
+
+-- x + r × y modulo q
+abbrev pub plusTimes : ℕ → ℤ → ℕ → ℕ → ℕ
+plusTimes q r x y = residue (pos x +ℤ r *ℤ pos y) q
+
+-- word k of the errors f with p added to the body
+unfoldable pub startWord : ℕ → ℕ → (ℕ → ℤ) → ℕ → ℕ → ℕ
+startWord q n f p k = residue (f k +ℤ pick (eqb k n) (pos p) (pos 0)) q
+
+-- ---- packed messages and batches, under the words s
+
+-- the plaintexts of the messages xs
+abbrev pub encodings : PlaintextEmbedding → LweParameters → List ℕ → ℕ → ℤ
+encodings g P xs i = pos (encodeWord g (sizeOf (P .modulus)) (P .«plaintext_modulus») (getD xs i 0))
+
+-- the codec refuses none of the messages xs
+pub record Coding (P : LweParameters) (xs : List ℕ) : Type 0 where
+  pub codec : codecRefusal (P .«plaintext_modulus») (meant (P .modulus)) ≡ 0
+  pub each : (i : ℕ) → i < length xs → firstOf (encodeRows (P .«plaintext_modulus») (P .modulus) (getD xs i 0)) ≡ 0
+
+-- the codec refuses no phase
+pub record Opening (P : LweParameters) : Type 0 where
+  pub positive : 0 < sizeOf (P .modulus)
+  pub codec : codecRefusal (P .«plaintext_modulus») (meant (P .modulus)) ≡ 0
+  pub each : (p : ℕ) → p < sizeOf (P .modulus) → firstOf (decodeRows (P .«plaintext_modulus») (P .modulus) p) ≡ 0
+
+-- a packed encryption of the messages xs
+abbrev pub packedMessageRows : LweParameters → List ℕ → List ℕ → List ℤ → List ℕ → ℕ → List Check
+packedMessageRows P s a es xs room =
+    row (modulusFails (meant (P .modulus))) 2
+    ∷ row (dimensionFails (P .dimension .0)) 6
+    ∷ row (plaintextFails (P .«plaintext_modulus»)) 7
+    ∷ row (smallFails (P .«plaintext_modulus») (meant (P .modulus))) 8
+    ∷ row (lengthFails (length s) (P .dimension .0)) 9
+    ∷ row (countFails (length xs) (P .dimension .0)) 10
+    ∷ row (lengthFails room (P .dimension .0 + length xs)) 11
+    ∷ row (lengthFails (length a) (P .dimension .0)) 12
+    ∷ row (lengthFails (length es) (length xs)) 12
+    ∷ row (boundFails (sizeOf (P .modulus)) (P .bound)) 13
+    ∷ row (wordsFail (sizeOf (P .modulus)) s) 14
+    ∷ row (wordsFail (sizeOf (P .modulus)) a) 14
+    ∷ row (errorsFail (P .bound) es) 15
+    ∷ row (messagesFail (P .«plaintext_modulus») xs) 16
+    ∷ []
+
+unfoldable pub packedMessageRefusal : LweParameters → List ℕ → List ℕ → List ℤ → List ℕ → ℕ → ℕ
+packedMessageRefusal P s a es xs room = firstOf (packedMessageRows P s a es xs room)
+
+-- the messages of the packed ciphertext x
+abbrev pub packedOpenRows : LweParameters → List ℕ → List ℕ → ℕ → List Check
+packedOpenRows P s x room =
+    row (modulusFails (meant (P .modulus))) 2
+    ∷ row (dimensionFails (P .dimension .0)) 6
+    ∷ row (plaintextFails (P .«plaintext_modulus»)) 7
+    ∷ row (smallFails (P .«plaintext_modulus») (meant (P .modulus))) 8
+    ∷ row (lengthFails (length s) (P .dimension .0)) 9
+    ∷ row (packedFails (length x) (P .dimension .0)) 10
+    ∷ row (lengthFails room (length x - P .dimension .0)) 11
+    ∷ row (boundFails (sizeOf (P .modulus)) (P .bound)) 13
+    ∷ row (wordsFail (sizeOf (P .modulus)) s) 14
+    ∷ row (wordsFail (sizeOf (P .modulus)) x) 14
+    ∷ []
+
+unfoldable pub packedOpenRefusal : LweParameters → List ℕ → List ℕ → ℕ → ℕ
+packedOpenRefusal P s x room = firstOf (packedOpenRows P s x room)
+
+-- a batch of encryptions of the messages xs
+abbrev pub batchRows : LweParameters → List ℕ → List ℕ → List ℤ → List ℕ → ℕ → List Check
+batchRows P s masks es xs room =
+    row (modulusFails (meant (P .modulus))) 2
+    ∷ row (dimensionFails (P .dimension .0)) 6
+    ∷ row (plaintextFails (P .«plaintext_modulus»)) 7
+    ∷ row (smallFails (P .«plaintext_modulus») (meant (P .modulus))) 8
+    ∷ row (lengthFails (length s) (P .dimension .0)) 9
+    ∷ row (lengthFails room (length xs * (P .dimension .0 + 1))) 11
+    ∷ row (lengthFails (length masks) (length xs * P .dimension .0)) 12
+    ∷ row (lengthFails (length es) (length xs)) 12
+    ∷ row (boundFails (sizeOf (P .modulus)) (P .bound)) 13
+    ∷ row (wordsFail (sizeOf (P .modulus)) s) 14
+    ∷ row (wordsFail (sizeOf (P .modulus)) masks) 14
+    ∷ row (errorsFail (P .bound) es) 15
+    ∷ row (messagesFail (P .«plaintext_modulus») xs) 16
+    ∷ []
+
+unfoldable pub batchRefusal : LweParameters → List ℕ → List ℕ → List ℤ → List ℕ → ℕ → ℕ
+batchRefusal P s masks es xs room = firstOf (batchRows P s masks es xs room)
+
+-- the phases of the batch x
+abbrev pub batchPhaseRows : LweEncryptionParameters → List ℕ → List ℕ → ℕ → List Check
+batchPhaseRows P s x room =
+    row (modulusFails (meant (P .modulus))) 2
+    ∷ row (dimensionFails (P .dimension .0)) 6
+    ∷ row (lengthFails (length s) (P .dimension .0)) 9
+    ∷ row (batchFails (length x) (P .dimension .0)) 10
+    ∷ row (lengthFails room (length x / (P .dimension .0 + 1))) 11
+    ∷ row (boundFails (sizeOf (P .modulus)) (P .bound)) 13
+    ∷ row (wordsFail (sizeOf (P .modulus)) s) 14
+    ∷ row (wordsFail (sizeOf (P .modulus)) x) 14
+    ∷ []
+
+unfoldable pub batchPhaseRefusal : LweEncryptionParameters → List ℕ → List ℕ → ℕ → ℕ
+batchPhaseRefusal P s x room = firstOf (batchPhaseRows P s x room)
+
+-- its messages
+abbrev pub batchOpenRows : LweParameters → List ℕ → List ℕ → ℕ → List Check
+batchOpenRows P s x room =
+    row (modulusFails (meant (P .modulus))) 2
+    ∷ row (dimensionFails (P .dimension .0)) 6
+    ∷ row (plaintextFails (P .«plaintext_modulus»)) 7
+    ∷ row (smallFails (P .«plaintext_modulus») (meant (P .modulus))) 8
+    ∷ row (lengthFails (length s) (P .dimension .0)) 9
+    ∷ row (batchFails (length x) (P .dimension .0)) 10
+    ∷ row (lengthFails room (length x / (P .dimension .0 + 1))) 11
+    ∷ row (boundFails (sizeOf (P .modulus)) (P .bound)) 13
+    ∷ row (wordsFail (sizeOf (P .modulus)) s) 14
+    ∷ row (wordsFail (sizeOf (P .modulus)) x) 14
+    ∷ []
+
+unfoldable pub batchOpenRefusal : LweParameters → List ℕ → List ℕ → ℕ → ℕ
+batchOpenRefusal P s x room = firstOf (batchOpenRows P s x room)
+
+-- what opening a batch asks, of n and the lengths of input and output: a row for each word of the output
+pub record Rowwise (q n words room : ℕ) : Type 0 where
+  pub positive : 0 < q
+  pub whole : words ≡ room * (n + 1)

@@ -5,7 +5,7 @@ ghost use lib.IntN.{pos};
 ghost use lib.ListN.{length, getD, take, drop};
 ghost use Rattle.scheme.specs.Lwe.{words, signed, inner, phaseOf, rowOf};
 ghost use Rattle.primus_reduce.specs.Ring.{sizeOf, modulo};
-ghost use Rattle.primus_lwe.specs.Answers.{Run, withBody, replaced};
+ghost use Rattle.primus_lwe.specs.Answers.{withBody, replaced};
 use crate::secret_key::borrowed;
 use primus_reduce::Modulus;
 
@@ -21,12 +21,7 @@ pub(crate) fn row_product(masks: &[u32], secret: &[u32], i: usize, modulus: Modu
 }
 
 // The same under a signed key.
-pub(crate) fn row_product_signed(
-    masks: &[u32],
-    secret: &[i32],
-    i: usize,
-    modulus: Modulus,
-) -> u32
+pub(crate) fn row_product_signed(masks: &[u32], secret: &[i32], i: usize, modulus: Modulus) -> u32
     requires { ⌜ i * length (now secret) + length (now secret) ≤ length (now masks) ⌝ }
     ensures { λ r. ⌜ r ≡ modulo (sizeOf modulus) (inner (length (now (secret .entry))) (take (length (now (secret .entry))) (drop (i * length (now (secret .entry))) (now (masks .entry)))) (signed (now (secret .entry)))) ⌝ }
 {
@@ -47,7 +42,7 @@ pub(crate) fn encrypt_row(
     plaintext: u32,
     modulus: Modulus,
 )
-    requires { ⌜ Run (sizeOf modulus) n (length (now masks)) (length (now errors)) (length (now out)) × (i < length (now errors)) ⌝ }
+    requires { ⌜ (0 < sizeOf modulus) × (i < length (now errors)) × (i * n + n ≤ length (now masks)) × (i * (n + 1) + (n + 1) ≤ length (now out)) ⌝ }
     ensures { λ _. ⌜ now (out .exit) ≡ replaced (now (out .entry)) (i * (n + 1)) (n + 1) (withBody (sizeOf modulus) (take n (drop (i * n) (now (masks .entry)))) sum (getD (now (errors .entry)) i (pos 0)) plaintext) ⌝ }
 {
     let error = borrowed::error_residue(errors, i, modulus);

@@ -26,7 +26,7 @@ pub enum MessageAnswer {
 }
 
 // encode(m). Its checks have passed, so the codec does not refuse.
-fn encoding(
+pub(crate) fn encoding(
     plaintext_modulus: u32,
     modulus: Modulus,
     message: u32,
@@ -49,7 +49,7 @@ fn encoding(
 }
 
 // decode(p). Its checks have passed, so the codec does not refuse.
-fn decoding(plaintext_modulus: u32, modulus: Modulus, phase: u32) -> u32
+pub(crate) fn decoding(plaintext_modulus: u32, modulus: Modulus, phase: u32) -> u32
     requires { ⌜ (codecRefusal «plaintext_modulus» (meant modulus) ≡ 0) × (firstOf (decodeRows «plaintext_modulus» modulus phase) ≡ 0) ⌝ }
     ensures { λ r. ⌜ r ≡ decode (sizeOf modulus) «plaintext_modulus» phase ⌝ }
 {

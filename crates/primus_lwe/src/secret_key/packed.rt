@@ -5,12 +5,13 @@ ghost use lib.IntN.{pos, _+ℤ_};
 ghost use lib.ListN.{length, getD};
 ghost use Rattle.scheme.specs.Numbers.{residue, tabulate};
 ghost use Rattle.scheme.specs.Lwe.{words, signed, rotated, packed, packedPhase};
-ghost use Rattle.scheme.specs.Checks.{lengthFails, packedFails, Answers};
+ghost use Rattle.scheme.specs.Checks.{lengthFails, Answers};
 ghost use Rattle.primus_reduce.specs.Ring.{sizeOf, modulo};
 ghost use Rattle.primus_lwe.specs.Answers.{Packable, packedRefusal, packedPhaseRefusal};
 use crate::parameter::LweEncryptionParameters;
 use crate::secret_key::borrowed;
 use primus_lattice::dimension_refused;
+use primus_lattice::packed_refused;
 use primus_reduce::Modulus;
 
 // Σ over j < n−i of a_j·s_(j+i), minus Σ over j ≥ n−i of a_j·s_(j−n+i).
@@ -30,15 +31,28 @@ fn rotated_mask_product(
     modulus.reduce_sub(prefix, suffix)
 }
 
-// Phase i is body i less its mask product.
+// Body i less its mask product.
+pub(crate) fn body_phase(
+    input: &[u32],
+    secret: &[u32],
+    i: usize,
+    dimension: usize,
+    modulus: Modulus,
+) -> u32
+    requires { ⌜ (0 < sizeOf modulus) × (length (now secret) ≡ dimension) × (i < dimension) × (dimension + i < length (now input)) ⌝ }
+    ensures { λ r. ⌜ r ≡ packedPhase (sizeOf modulus) dimension (now (input .entry)) (words (now (secret .entry))) i ⌝ }
+{
+    let product = rotated_mask_product(input, secret, i, dimension, modulus);
+    modulus.reduce_sub(input[dimension + i], product)
+}
+
 fn phases(out: &mut [u32], input: &[u32], secret: &[u32], dimension: usize, modulus: Modulus)
     requires { ⌜ (length (now out) ≤ dimension) × (length (now input) ≡ dimension + length (now out)) × (length (now secret) ≡ dimension) × (0 < sizeOf modulus) ⌝ }
     ensures { λ _. ⌜ now (out .exit) ≡ tabulate (length (now (out .entry))) (packedPhase (sizeOf modulus) dimension (now (input .entry)) (words (now (secret .entry)))) ⌝ }
 {
     let mut i = 0;
     while i < out.len() {
-        let product = rotated_mask_product(input, secret, i, dimension, modulus);
-        out[i] = modulus.reduce_sub(input[dimension + i], product);
+        out[i] = body_phase(input, secret, i, dimension, modulus);
         i += 1;
     }
 }
@@ -155,13 +169,6 @@ pub fn encrypt_encoded_packed(
     let modulus = params.modulus;
     write_packed(out, mask, secret, errors, plaintexts, modulus);
     0
-}
-
-// 10: fewer than n words, or more than n bodies. No sum: it could overflow.
-pub(crate) fn packed_refused(len: usize, dimension: usize) -> bool
-    ensures { λ r. ⌜ r ≡ packedFails len dimension ⌝ }
-{
-    len < dimension || dimension < len - dimension
 }
 
 // The number of bodies, or 0 where there are fewer than n words.

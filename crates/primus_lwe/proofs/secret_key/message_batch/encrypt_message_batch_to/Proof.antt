@@ -1,0 +1,38 @@
+use mathlib.Core.Path.{_≡_, sym, ap₂, _∙_}
+use Prim.Native.Nat.{ℕ}
+use borrow.Author.Needs.{needs}
+use lib.ListN.{length}
+use Rattle.scheme.specs.Lwe.{words, signed, encryptedRows}
+use Rattle.checks.proofs.Table.{refused, done}
+use Rattle.primus_reduce.specs.Ring.{sizeOf}
+use Rattle.primus_lwe.specs.Answers.{encodings}
+use Rattle.primus_lwe.proofs.Messages.{Batchable, batchable}
+use Rattle.primus_lwe.proofs.secret_key.message_batch.encrypt_message_batch_to.Statement.{statement}
+use Rattle.primus_lwe.proofs.secret_key.message_batch.encrypt_message_batch_to.Tie as tie
+
+abbrev start : tie.After-batch-refusal → tie.Start
+start c = c .before .before .before .before .before
+
+ready : (c : tie.Else1) → let a = start (c .before) .args in Batchable (a .params) (a .secret .now) (a .masks .now) (a .errors .now) (a .messages .now) (length (a .out .now))
+ready c =
+    let a = start (c .before) .args in
+    batchable (a .params) (a .secret .now) (a .masks .now) (a .errors .now) (a .messages .now) _ (sym (c .before .batch-refusal .ensures) ∙ c .if1 .left)
+
+returns : tie.Need-returns
+returns c = refused (c .before .batch-refusal .ensures) (c .if1 .taken)
+
+write-messages-requires : tie.Need-write-messages-requires
+write-messages-requires c κs = let r = ready (c .before) in (r .run, r .each, r .coded)
+
+returns-2 : tie.Need-returns-2
+returns-2 c =
+    let w = c .before .before in
+    let e = w .before .before in
+    let a = start (e .before) .args in
+    let r = ready e in
+    done (sym (e .before .batch-refusal .ensures) ∙ e .if1 .left)
+    (w .write-messages .ensures
+    ∙ ap₂ (λ (n : ℕ) (k : ℕ). encryptedRows (sizeOf (a .params .modulus)) n k (a .masks .now) (words (a .secret .now)) (signed (a .errors .now)) (encodings (a .embedding) (a .params) (a .messages .now))) (r .key) (sym (r .each)))
+
+pub encrypt-message-batch-to-spec : {M : Type 1} → statement M
+encrypt-message-batch-to-spec = tie.close (tie.spec (λ c κs. tt) returns write-messages-requires (λ c. search needs) returns-2)

@@ -1,0 +1,47 @@
+use mathlib.Core.Path.{_≡_, sym, _∙_}
+use Prim.Native.Nat.{_-_}
+use native.Mathlib.Omega.{arith}
+use lib.ListN.{length}
+use Rattle.scheme.specs.Lwe.{words, signed, packed}
+use Rattle.scheme.proofs.InPlace.{Filled, filled-start, filled-next, filled-end}
+use Rattle.primus_reduce.specs.Ring.{sizeOf}
+use Rattle.primus_lwe.specs.Answers.{encodings}
+use Rattle.primus_lwe.proofs.Laws.{packed-length}
+use Rattle.primus_lwe.proofs.secret_key.message_packed.write_packed_messages.Statement.{statement}
+use Rattle.primus_lwe.proofs.secret_key.message_packed.write_packed_messages.Tie as tie
+
+abbrev Inv-loop : tie.InvT-loop
+Inv-loop out₀ params embedding mask secret errors messages k₀ out k =
+    Filled (packed (sizeOf (params .modulus)) (length mask) (length messages) mask (words secret) (signed errors) (encodings embedding params messages)) out₀ out k
+
+abbrev μ-loop : tie.MeasureT-loop
+μ-loop out₀ params embedding mask secret errors messages k₀ out k = length out₀ - k
+
+loop-holds : tie.Need-loop-holds Inv-loop μ-loop
+loop-holds c =
+    let s = c .before .before .before .before in
+    let a = s .args in
+    filled-start _ _
+    (packed-length (sizeOf (a .params .modulus)) (length (a .messages .now)) (a .mask .now) (words (a .secret .now)) (signed (a .errors .now)) (encodings (a .embedding) (a .params) (a .messages .now)) 0 ∙ sym (s .pre .2))
+
+packed-message-word-requires : tie.Need-packed-message-word-requires Inv-loop μ-loop
+packed-message-word-requires c κs =
+    let s = c .before .before .before .before .before .before in
+    (s .pre .0, s .pre .1, omega (arith, s .pre .2))
+
+loop-again : tie.Need-loop-again Inv-loop μ-loop
+loop-again c =
+    let l = c .before .before in
+    filled-next _ _ _ _ (l .loop .inv) _ (omega arith) (c .packed-message-word .ensures)
+
+same-length : tie.Need-same-length Inv-loop μ-loop
+same-length c = c .before .loop .inv .same
+
+returns : tie.Need-returns Inv-loop μ-loop
+returns c = filled-end _ _ _ _ (c .before .loop .inv) (omega arith)
+
+pub write-packed-messages-spec : {M : Type 1} → statement M
+write-packed-messages-spec =
+    tie.close
+    (tie.spec Inv-loop μ-loop loop-holds packed-message-word-requires (λ c. omega arith) (λ c. omega arith) (λ c. omega arith) (λ c. omega arith) loop-again
+    same-length returns)
