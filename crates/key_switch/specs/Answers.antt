@@ -1,11 +1,12 @@
 -- The refusals of the calls, and their answers.
 use mathlib.Core.Path.{_≡_}
+use mathlib.Core.Bool.{Bool, not, _||_}
 use mathlib.Core.List.{List, [], _∷_, _++_}
 use Prim.Native.Nat.{ℕ, _+_, _*_, _/_, _<_, _≤_}
-use lib.Dec.{eqb}
+use lib.Dec.{eqb, leb}
 use lib.ListN.{length}
 use Rattle.scheme.specs.Numbers.{pick}
-use Rattle.scheme.specs.Switch.{Below}
+use Rattle.scheme.specs.Switch.{Below, entryOf}
 use Rattle.scheme.specs.Checks.{Check, row, firstOf, dimensionFails, lengthFails, batchFails, wordsFail}
 use Rattle.primus_reduce.specs.Ring.{sizeOf}
 use Rattle.primus_decompose.specs.Answers.{rows}
@@ -61,3 +62,15 @@ pub record Switchable (P : LweKeySwitchingParameters) (key input : List ℕ) (co
   pub fits : room ≡ count * (P .«output_dimension» .0 + 1)
   pub keys : Below (sizeOf (P .basis .modulus)) key
   pub words : Below (sizeOf (P .basis .modulus)) input
+
+-- the key alone, of `len` words: 1 to 6 and 9
+unfoldable pub keyRefusal : LweKeySwitchingParameters → Sizes → ℕ → ℕ
+keyRefusal P z len = firstOf (parameterRows P ++ row (lengthFails len (z .n * z .levels * (z .m + 1))) 9 ∷ [])
+
+-- these papers leave open what a key that is refused, or one without such an entry, hands out: an empty part
+abbrev pub entryMissing : LweKeySwitchingParameters → ℕ → ℕ → ℕ → Bool
+entryMissing P len i j = not (eqb (keyRefusal P (sizesOf P) len) 0) || leb (P .«input_dimension» .0) i || leb (P .basis .«level_count» .0) j
+
+-- "one entry is handed out as that part of the caller's key"
+abbrev pub entryAnswer : LweKeySwitchingParameters → List ℕ → ℕ → ℕ → List ℕ
+entryAnswer P key i j = pick (entryMissing P (length key) i j) [] (entryOf (P .basis .«level_count» .0) (P .«output_dimension» .0) key i j)

@@ -3,11 +3,13 @@ mod accumulate;
 mod batch;
 mod checked;
 mod explicit;
+mod key;
 mod native;
 mod parameters;
 mod tile;
 
 pub use checked::key_switch_batch_to;
 pub use checked::key_switch_to;
+pub use key::LweKeySwitchingKey;
 pub use parameters::LweKeySwitchingParameters;
 pub use parameters::LweKeySwitchingParametersAnswer;
