@@ -4,7 +4,7 @@ use mathlib.Core.Path.{_≡_, refl, sym, ap, ap₂, subst, _∙_}
 use mathlib.Core.Bool.{Bool, true, false, not, _&&_}
 use mathlib.Core.List.{List, [], _∷_, _++_}
 use Prim.Native.Nat.{ℕ, zero, suc, _+_, _-_, _*_, _/_, _%_, _^_, _<_, _≤_}
-use native.Mathlib.Nat.{mod-lt, div-lt-iff-lt-mul, mod-eq-of-lt, suc-mul, mul-le-mul-right}
+use native.Mathlib.Nat.{mod-lt, div-lt-iff-lt-mul, mod-eq-of-lt, mul-le-mul}
 use native.Mathlib.Omega.{arith}
 use lib.Dec.{eqb, leb, ltb}
 use lib.IntN.{ℤ, pos, _*ℤ_}
@@ -16,21 +16,25 @@ use Rattle.scheme.specs.Numbers.{pick, residue, Cong, tabulate}
 use Rattle.scheme.specs.Basis.{weight}
 use Rattle.scheme.specs.Lwe.{words, signed, encrypted}
 use Rattle.scheme.specs.Switch.{generatedEntry, generated}
-use Rattle.scheme.specs.Checks.{allOf, lengthFails, wordFails, wordsFail, magnitudesFail, errorsFail, Answers}
+use Rattle.scheme.specs.Checks.{row, firstOf, basisRows, dimensionFails, allOf, lengthFails, wordFails, wordsFail, magnitudesFail, errorsFail, Answers}
 use Rattle.scheme.proofs.Residue.{residue-lt, cong-refl, cong-trans, cong-of-eq, cong-mul}
 use Rattle.scheme.proofs.Lists.{getD-tabulate}
 use Rattle.scheme.proofs.Rows.{Filling, filling-start, filling-next, filling-end, row-within}
 use Rattle.scheme.proofs.Reading.{weight-below}
 use Rattle.scheme.proofs.Switch.{encrypted-cong, entry-length}
+use Rattle.scheme.proofs.Checks.{passed, passed-append, length-ok}
 use Rattle.primus_reduce.specs.Ring.{meant, sizeOf, modulo}
+use Rattle.primus_reduce.specs.declared.modulus.Modulus.{Modulus}
 use Rattle.primus_decompose.specs.declared.primitive.params.PreparedBasis.{PreparedBasis}
 use Rattle.primus_decompose.specs.declared.primitive.basis.ApproxSignedBasis.{ApproxSignedBasis}
-use Rattle.primus_decompose.specs.Answers.{basis, weightWord}
-use Rattle.primus_decompose.specs.Params.{Ready, basisIn}
+use Rattle.primus_decompose.specs.Answers.{basis, rows, weightWord}
+use Rattle.primus_decompose.specs.Params.{Ready, basisIn, preparedOf}
 use Rattle.primus_lwe.specs.declared.parameter.LweEncryptionParameters.{LweEncryptionParameters}
 use Rattle.primus_lwe.specs.Answers.{encryptRows, encryptRefusal}
 use Rattle.primus_lwe.proofs.Laws.{modulo-stands, none-fails}
-use Rattle.key_switch.specs.Answers.{Generable, EntryReady}
+use Rattle.key_switch.specs.declared.parameters.LweKeySwitchingParameters.{LweKeySwitchingParameters}
+use Rattle.key_switch.specs.Answers.{sizesOf, parameterRows, generateRows, generateRefusal, Generable, EntryReady}
+use Rattle.key_switch.proofs.Passed.{parameters-passed}
 
 -- ---- a part passes the checks that the whole has passed
 
@@ -220,3 +224,63 @@ module _ (p : PreparedBasis) (P : LweEncryptionParameters) (weights : List ℕ) 
 -- a word stands for itself, and a reduced number for the number
 pub signed-stands : (p : PreparedBasis) → Ready p → (w : ℕ) (c : ℤ) → w ≡ modulo (sizeOf (p .modulus)) c → Cong (sizeOf (p .modulus)) (pos w) c
 signed-stands p r w c e = modulo-stands (omega (arith, r .sound .accepted .fits, pow-pos (p .«log_basis»))) c e
+
+-- ---- what the checks of a generation leave
+
+-- the weights as words
+weights-are : (b : ApproxSignedBasis) (p : PreparedBasis) → p ≡ preparedOf (b .modulus) (b .«log_basis» .0) (b .«level_count» .0) → Ready p → (weights : List ℕ) → weights ≡ tabulate 16 (weightWord b)
+    → (j : ℕ) → j < p .«level_count» → (j < 16) × (getD weights j 0 ≡ weight (basisIn p) j)
+weights-are b p ep r weights e j h =
+    let f : j < 16 = few (p .«level_count») (p .«log_basis») (basisIn p .bits) h (r .sound .levels-within) (r .sound .bits-within) (r .sound .log-least) in
+    (f, ap (λ l. getD l j 0) e ∙ getD-tabulate 16 (weightWord b) j f ∙ plain (subst (λ x. j < x .«level_count») ep h) ∙ ap (λ x. weight (basisIn x) j % 2 ^ 32) (sym ep) ∙ mod-eq-of-lt below)
+  where
+    few : (L log k : ℕ) → j < L → L * log ≤ k → k ≤ 32 → 2 ≤ log → j < 16
+    few L log k g a c d = omega (arith, mul-le-mul {n₁ = suc j} {m₁ = 2} {n₂ = L} {m₂ = log} g d)
+
+    plain : j < b .«level_count» .0 → weightWord b j ≡ weight (basis b) j % 2 ^ 32
+    plain k = rw (lt-ltb j (b .«level_count» .0) k)
+
+    below : weight (basisIn p) j < 2 ^ 32
+    below = omega (arith, weight-below (basisIn p) (r .sound .accepted) j h, r .sound .accepted .covered, pow-mono {i = basisIn p .bits} {j = 32} (r .sound .bits-within))
+
+module _ (P : LweKeySwitchingParameters) (E len : ℕ) (bad : Bool) (s′ masks : List ℕ) (errors : List ℤ) (room : ℕ)
+    (e : generateRefusal P E len bad s′ masks errors room ≡ 0) where
+  pub generate-accepted : (firstOf (rows (P .basis)) ≡ 0) × (len ≡ P .«input_dimension» .0)
+  unfolding generateRefusal
+  generate-accepted =
+      let ds = generateRows (sizesOf P) E len bad s′ masks errors room in
+      let p = passed-append (parameterRows P) ds tt e in
+      (parameters-passed P (p .0) .0, length-ok _ _ (passed ds tt (p .1) .0))
+
+  module _ (q : Modulus) (eq : q ≡ P .basis .modulus) (p : PreparedBasis) (ep : p ≡ preparedOf (P .basis .modulus) (P .basis .«log_basis» .0) (P .basis .«level_count» .0)) where
+    pub generable : Ready p → (weights : List ℕ) → weights ≡ tabulate 16 (weightWord (P .basis))
+        → Generable p (record { dimension = P .«output_dimension»; modulus = q; bound = E }) weights len s′ masks errors room
+    unfolding generateRefusal
+    generable r weights ew =
+        let ds = generateRows (sizesOf P) E len bad s′ masks errors room in
+        let (first, rest) = passed-append (parameterRows P) ds tt e in
+        let dims = row (dimensionFails (P .«input_dimension» .0)) 6 ∷ row (dimensionFails (P .«output_dimension» .0)) 6 ∷ [] in
+        let (base, sixes) = passed-append (rows (P .basis)) dims tt first in
+        let (six, (six′, done)) = passed dims tt sixes in
+        let (one, (two, others)) = passed (rows (P .basis)) tt base in
+        let (nine, (nine′, (eleven, (twelve, (twelve′, (thirteen, (fourteen, (words, (mask, (fifteen, end)))))))))) = passed ds tt rest in
+        let n : len ≡ P .«input_dimension» .0 = length-ok _ _ nine in
+        record {
+          ready = r;
+          same = eq ∙ ap (λ x. x .modulus) (sym ep);
+          modulus = rw ep two;
+          dimension = six′;
+          narrow = parameters-passed P first .4;
+          weighted = weights-are (P .basis) p ep r weights ew;
+          outputs = length-ok _ _ nine′;
+          fits = rw (n, ep) (length-ok _ _ eleven);
+          masked = rw (n, ep) (length-ok _ _ twelve);
+          errored = rw (n, ep) (length-ok _ _ twelve′);
+          bounded = rw ep thirteen;
+          words = rw ep words;
+          mask-words = rw ep mask;
+          errors-within = fifteen;
+        }
+
+    pub generated-is : (s s″ e : ℕ → ℤ) → generated (basisIn p) len (P .«output_dimension» .0) s s″ e masks ≡ generated (basis (P .basis)) (P .«input_dimension» .0) (P .«output_dimension» .0) s s″ e masks
+    generated-is s s″ e = ap₂ (λ x n. generated (basisIn x) n (P .«output_dimension» .0) s s″ e masks) ep (generate-accepted .1)

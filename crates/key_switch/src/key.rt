@@ -186,4 +186,99 @@ impl LweKeySwitchingKey {
         let end = start + width;
         &key[start..end]
     }
+
+    // Entry (i, j) encrypts sᵢ × weight j under the output key, with mask and error i × L + j; errors lie within ±bound.
+    // Refuses by 1 to 6, 9, 11, 12, 13, 14, 15.
+    pub fn generate(
+        params: LweKeySwitchingParameters,
+        bound: u32,
+        input_key: &[u32],
+        output_key: &[u32],
+        masks: &[u32],
+        errors: &[i32],
+        out: &mut [u32],
+    ) -> u32
+        ensures { λ r. ⌜ Answers (generateRefusal params bound (length (now («input_key» .entry))) (wordsFail (sizeOf (params .basis .modulus)) (now («input_key» .entry))) (now («output_key» .entry)) (now (masks .entry)) (now (errors .entry)) (length (now (out .entry)))) (generated (basis (params .basis)) (params .«input_dimension» .0) (params .«output_dimension» .0) (words (now («input_key» .entry))) (words (now («output_key» .entry))) (signed (now (errors .entry))) (now (masks .entry))) (now (out .entry)) r (now (out .exit)) ⌝ }
+    {
+        let basis = params.basis;
+        let modulus = basis.modulus();
+        let refused = checks::words_refused(modulus, input_key);
+        let len = input_key.len();
+        let room = out.len();
+        let r = generate_refusal(params, bound, len, refused, output_key, masks, errors, room);
+        if r != 0 {
+            return r;
+        }
+        let dimension = params.output_dimension;
+        let entries = LweEncryptionParameters {
+            dimension,
+            modulus,
+            bound,
+        };
+        let weights = basis.scalars();
+        let prepared = basis.prepare();
+        match prepared {
+            PreparedBasisAnswer::Ready(p) => {
+                write_entries(
+                    out,
+                    input_key,
+                    output_key,
+                    masks,
+                    errors,
+                    weights,
+                    p,
+                    entries,
+                );
+            }
+            PreparedBasisAnswer::Refused(_) => {}
+        }
+        0
+    }
+
+    // The same from an input key of signed numbers, each standing for itself modulo q.
+    pub fn generate_signed(
+        params: LweKeySwitchingParameters,
+        bound: u32,
+        input_key: &[i32],
+        output_key: &[u32],
+        masks: &[u32],
+        errors: &[i32],
+        out: &mut [u32],
+    ) -> u32
+        ensures { λ r. ⌜ Answers (generateRefusal params bound (length (now («input_key» .entry))) (signedFail (sizeOf (params .basis .modulus)) (now («input_key» .entry))) (now («output_key» .entry)) (now (masks .entry)) (now (errors .entry)) (length (now (out .entry)))) (generated (basis (params .basis)) (params .«input_dimension» .0) (params .«output_dimension» .0) (signed (now («input_key» .entry))) (words (now («output_key» .entry))) (signed (now (errors .entry))) (now (masks .entry))) (now (out .entry)) r (now (out .exit)) ⌝ }
+    {
+        let basis = params.basis;
+        let modulus = basis.modulus();
+        let refused = checks::signed_refused(modulus, input_key);
+        let len = input_key.len();
+        let room = out.len();
+        let r = generate_refusal(params, bound, len, refused, output_key, masks, errors, room);
+        if r != 0 {
+            return r;
+        }
+        let dimension = params.output_dimension;
+        let entries = LweEncryptionParameters {
+            dimension,
+            modulus,
+            bound,
+        };
+        let weights = basis.scalars();
+        let prepared = basis.prepare();
+        match prepared {
+            PreparedBasisAnswer::Ready(p) => {
+                write_entries_signed(
+                    out,
+                    input_key,
+                    output_key,
+                    masks,
+                    errors,
+                    weights,
+                    p,
+                    entries,
+                );
+            }
+            PreparedBasisAnswer::Refused(_) => {}
+        }
+        0
+    }
 }
