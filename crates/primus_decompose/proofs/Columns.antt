@@ -23,7 +23,7 @@ use Rattle.scheme.proofs.Modulus.{size-most}
 use Rattle.scheme.proofs.Walk.{walk-digits, carry-in-most}
 use Rattle.primus_reduce.specs.Ring.{meant, sizeOf}
 use Rattle.primus_decompose.specs.declared.primitive.common.SignedDecomposer.{SignedDecomposer}
-use Rattle.primus_decompose.specs.declared.primitive.params.Params.{Params}
+use Rattle.primus_decompose.specs.declared.primitive.params.PreparedBasis.{PreparedBasis}
 use Rattle.primus_decompose.specs.Step.{windowOf, stepOf}
 use Rattle.primus_decompose.specs.Params.{Ready, basisIn, firstCarry, decomposerOf}
 use Rattle.primus_decompose.specs.Column.{after, stepDigit, Column, Words}
@@ -115,7 +115,7 @@ module _ (b : Basis) (a : ℕ) where
       ∙ ap (window (b .baseLog) (walkAt (b .baseLog) (walkFrom b a) j .left)) (h .carry-is))
 
 -- the digits that the code writes are those of document 01
-pub step-digits : (p : Params) → Ready p → (a j : ℕ) → j < p .«level_count» → stepDigit (decomposerOf (basisIn p) a) j ≡ stored (basisIn p .modulus) (digit (basisIn p) a j)
+pub step-digits : (p : PreparedBasis) → Ready p → (a j : ℕ) → j < p .«level_count» → stepDigit (decomposerOf (basisIn p) a) j ≡ stored (basisIn p .modulus) (digit (basisIn p) a j)
 step-digits p r a j h = step-walk (basisIn p) a j ∙ walk-digits 32 (basisIn p) (r .sound .accepted) wide a j h
   where
     wide : basisIn p .modulus ≤ 2 ^ 32
@@ -131,7 +131,7 @@ pub record Written (b : Basis) (xs : List ℕ) (i : ℕ) (out : List ℕ) : Type
 pub written-none : (b : Basis) (xs out : List ℕ) → length out ≡ b .levels * length xs → Written b xs 0 out
 written-none b xs out l = record { sized = l; digits = λ j k h g. absurd (omega arith) }
 
-pub written-next : (p : Params) → Ready p → (xs : List ℕ) (i : ℕ) (out out′ : List ℕ) (d : SignedDecomposer) → i < length xs
+pub written-next : (p : PreparedBasis) → Ready p → (xs : List ℕ) (i : ℕ) (out out′ : List ℕ) (d : SignedDecomposer) → i < length xs
     → d ≡ decomposerOf (basisIn p) (getD xs i 0) → Column d (p .«level_count») (length xs) i out out′ → Written (basisIn p) xs i out → Written (basisIn p) xs (i + 1) out′
 written-next p r xs i out out′ d h e c w =
     record { sized = c .same-length ∙ w .sized; digits = λ j k l g. go j k l g (ℕ-discrete k i) }
@@ -147,7 +147,7 @@ pub written-all : (b : Basis) (xs : List ℕ) (i : ℕ) (out : List ℕ) → len
 written-all b xs i out h w = is-runs b xs out (w .sized) (λ j k l g. w .digits j k l (omega arith))
 
 -- one word alone
-pub one-column : (p : Params) → Ready p → (a : ℕ) (d : SignedDecomposer) (out₀ out : List ℕ) → length out₀ ≡ p .«level_count» → d ≡ decomposerOf (basisIn p) a
+pub one-column : (p : PreparedBasis) → Ready p → (a : ℕ) (d : SignedDecomposer) (out₀ out : List ℕ) → length out₀ ≡ p .«level_count» → d ≡ decomposerOf (basisIn p) a
     → Column d (p .«level_count») 1 0 out₀ out → out ≡ digitsOf (basisIn p) a
 one-column p r a d out₀ out l e c =
     is-tabulate (p .«level_count») _ out (c .same-length ∙ l)

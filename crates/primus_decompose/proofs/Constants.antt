@@ -3,7 +3,7 @@
 use mathlib.Core.Path.{_≡_, refl, ap, ap₂, _∙_}
 use mathlib.Core.Bool.{Bool, false}
 use Prim.Native.Nat.{ℕ, zero, suc, _+_, _-_, _*_, _/_, _%_, _^_, _≤_, _<_, max}
-use native.Mathlib.Nat.{mul-comm, mul-le-mul}
+use native.Mathlib.Nat.{mul-comm, mul-le-mul, mod-eq-of-lt}
 use native.Mathlib.Omega.{arith}
 use lib.Pow.{pow-lt, pow-mono, pow-pos}
 use lib.Dec.{ltb, eqb}
@@ -13,9 +13,10 @@ use Rattle.scheme.specs.Basis.{base, boundOf, dropped}
 use Rattle.scheme.specs.Reading.{largest, threshold}
 use Rattle.scheme.proofs.Reading.{pow-mul, threshold-half}
 use Rattle.scheme.proofs.Checks.{Sound}
-use Rattle.primus_decompose.specs.Params.{wrapAt, Sized, Ready, basisBy, basisIn, initOf, decomposerOf}
+use Rattle.primus_decompose.specs.Params.{wrapAt, Sized, Ready, basisBy, basisIn, preparedOf, adjustBy, initOf, decomposerOf, decomposerFrom}
+use Rattle.primus_decompose.proofs.Windows.{above-none}
 use Rattle.primus_decompose.specs.declared.primitive.basis.ValueCarry.{ValueCarry}
-use Rattle.primus_decompose.specs.declared.primitive.params.Params.{Params}
+use Rattle.primus_decompose.specs.declared.primitive.params.PreparedBasis.{PreparedBasis}
 use Rattle.scheme.specs.Walk.{adjusted, carryIn}
 use Rattle.primus_reduce.proofs.Laws.{one-shl, product-most}
 use Rattle.primus_reduce.specs.Ring.{meant, sizeOf}
@@ -53,10 +54,16 @@ carry-some (suc d) v e = ap (λ n. eqb (v / 2 ^ n % 2) 1) less
     less : suc d - 1 ≡ d
     less = omega arith
 
-pub adjust-below : (a T add : ℕ) → a < T → a ≡ pick (ltb a T) a (a + add)
+-- no bit of a word is above its 32
+pub carry-beyond : (d v : ℕ) → v < 2 ^ 32 → 32 < d → false ≡ eqb (carryIn d v) 1
+unfolding carryIn
+carry-beyond zero v h k = absurd (omega arith)
+carry-beyond (suc d) v h k = ap (λ n. eqb (n % 2) 1) (above-none d v h (omega arith))
+
+pub adjust-below : (a T add : ℕ) → a < T → a ≡ adjustBy T add a
 adjust-below a T add h = rw (lt-ltb a T h)
 
-pub adjust-above : (a T add : ℕ) → T ≤ a → a + add ≡ pick (ltb a T) a (a + add)
+pub adjust-above : (a T add : ℕ) → T ≤ a → (a + add) % 2 ^ 32 ≡ adjustBy T add a
 adjust-above a T add h = rw (le-ltb a T h)
 
 -- ---- T and the other constants
@@ -162,7 +169,7 @@ module _ (m : Modulus) (b L : ℕ) (s : Sound 32 (meant m) b L) where
 
 -- ---- where the walk of a word begins
 
-module _ (p : Params) (r : Ready p) (a : ℕ) (h : a < sizeOf (p .modulus)) where
+module _ (p : PreparedBasis) (r : Ready p) (a : ℕ) (h : a < sizeOf (p .modulus)) where
   pub adjust-fits : a + p .add < 2 ^ 32
   adjust-fits =
       omega (arith, r .add-is, r .sound .accepted .covered, pow-mono {i = basisIn p .bits} {j = 32} (r .sound .bits-within))
@@ -177,13 +184,13 @@ module _ (p : Params) (r : Ready p) (a : ℕ) (h : a < sizeOf (p .modulus)) wher
         mul-le-mul {n₁ = 1} {m₁ = 2} {n₂ = p .«level_count»} {m₂ = p .«log_basis»} (r .sound .accepted .some-level) (r .sound .log-least),
       )
 
-  pub init-is : (v : ℕ) (c : Bool) → v ≡ pick (ltb a (p .threshold)) a (a + p .add) → c ≡ eqb (carryIn (p .«drop_bits») v) 1
+  pub init-is : (v : ℕ) (c : Bool) → v ≡ adjustBy (p .threshold) (p .add) a → c ≡ eqb (carryIn (p .«drop_bits») v) 1
       → record { value = v; carry = c } ≡ initOf (basisIn p) a
   unfolding adjusted
   init-is v c ev ec = ap₂ (λ x y. record { value = x; carry = y }) word (ec ∙ ap₂ (λ d n. eqb (carryIn d n) 1) (r .dropped-is) word)
     where
       word : v ≡ pick (ltb a (threshold (basisIn p))) a (a + (2 ^ basisIn p .bits - basisIn p .modulus))
-      word = ev ∙ ap₂ (λ t n. pick (ltb a t) a (a + n)) (r .threshold-is) (r .add-is)
+      word = ev ∙ ap (λ n. pick (ltb a (p .threshold)) a n) (mod-eq-of-lt adjust-fits) ∙ ap₂ (λ t n. pick (ltb a t) a (a + n)) (r .threshold-is) (r .add-is)
 
   pub decomposer-is : (s : ValueCarry) → s ≡ initOf (basisIn p) a
       → record { value = s .value / 2 ^ p .«drop_bits»; carry = s .carry; «log_basis» = p .«log_basis»; «modulus_minus_basis» = p .«modulus_minus_basis» }
@@ -191,3 +198,13 @@ module _ (p : Params) (r : Ready p) (a : ℕ) (h : a < sizeOf (p .modulus)) wher
   decomposer-is s e =
       ap₂ (λ x d. record { value = x .value / 2 ^ d; carry = x .carry; «log_basis» = p .«log_basis»; «modulus_minus_basis» = p .«modulus_minus_basis» }) e (r .dropped-is)
       ∙ ap (λ o. record { value = initOf (basisIn p) a .value / 2 ^ dropped (basisIn p); carry = initOf (basisIn p) a .carry; «log_basis» = p .«log_basis»; «modulus_minus_basis» = o }) (r .offset-is)
+
+  -- by the constants of an accepted basis
+  pub decomposer-ready : decomposerFrom p a ≡ decomposerOf (basisIn p) a
+  decomposer-ready = decomposer-is _ (init-is (adjustBy (p .threshold) (p .add) a) (eqb (carryIn (p .«drop_bits») (adjustBy (p .threshold) (p .add) a)) 1) refl refl)
+
+-- the constants of an accepted basis are those of its definition
+pub prepared-is : (p : PreparedBasis) → Ready p → p ≡ preparedOf (p .modulus) (p .«log_basis») (p .«level_count»)
+prepared-is p r =
+    ap₂ (λ d t. record { modulus = p .modulus; «log_basis» = p .«log_basis»; «level_count» = p .«level_count»; «drop_bits» = d; threshold = t; add = p .add; «modulus_minus_basis» = p .«modulus_minus_basis» }) (r .dropped-is) (r .threshold-is)
+    ∙ ap₂ (λ a o. record { modulus = p .modulus; «log_basis» = p .«log_basis»; «level_count» = p .«level_count»; «drop_bits» = dropped (basisIn p); threshold = threshold (basisIn p); add = a; «modulus_minus_basis» = o }) (r .add-is) (r .offset-is)

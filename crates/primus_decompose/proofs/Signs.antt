@@ -20,7 +20,7 @@ use Rattle.scheme.specs.Walk.{adjusted}
 use Rattle.scheme.proofs.Integers.{_⊖_, ⊖-ind, ⊖-eq, diff}
 use Rattle.scheme.proofs.Window.{reading-rest, rounding-rest}
 use Rattle.primus_reduce.specs.Ring.{meant, sizeOf}
-use Rattle.primus_decompose.specs.declared.primitive.params.Params.{Params}
+use Rattle.primus_decompose.specs.declared.primitive.params.PreparedBasis.{PreparedBasis}
 use Rattle.primus_decompose.specs.declared.primitive.basis.ValueCarry.{ValueCarry}
 use Rattle.primus_decompose.specs.Params.{Ready, basisIn, initOf}
 use Rattle.primus_decompose.specs.Answers.{readingOf}
@@ -40,7 +40,7 @@ minus-fits a b h k = rw (wide a b h k, difference a b) (record { sfits = small a
 pub minus-is : (a b : ℕ) → a < 2 ^ 62 → b < 2 ^ 62 → toZ w64 (ofZ w64 (toZ w64 a -ℤ toZ w64 b)) ≡ pos a -ℤ pos b
 minus-is a b h k = toZ-ofZ (minus-fits a b h k) ∙ wide a b h k
 
-module _ (p : Params) (r : Ready p) (a : ℕ) (s : ValueCarry) (es : s ≡ initOf (basisIn p) a) (H D rest lost : ℕ)
+module _ (p : PreparedBasis) (r : Ready p) (a : ℕ) (s : ValueCarry) (es : s ≡ initOf (basisIn p) a) (H D rest lost : ℕ)
     (eH : H ≡ boundOf (p .«drop_bits»)) (eD : D ≡ 2 ^ p .«drop_bits») (er : rest ≡ (s .value + H) % D)
     (el : lost ≡ pick (ltb a (p .threshold)) 0 (sizeOf (p .modulus))) where
   bound-is : H ≡ bound (basisIn p)

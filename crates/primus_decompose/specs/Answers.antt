@@ -31,7 +31,9 @@ use Rattle.primus_decompose.specs.declared.parameters.RetainedLevels.{Re
 use Rattle.primus_decompose.specs.declared.parameters.RetainedLevels.the-variants.{Full, Count}
 use Rattle.primus_decompose.specs.declared.primitive.basis.ApproxSignedBasis.{ApproxSignedBasis}
 use Rattle.primus_decompose.specs.declared.primitive.basis.Reading.{Reading}
-use Rattle.primus_decompose.specs.Params.{basisBy, initOf, decomposerOf}
+use Rattle.primus_decompose.specs.declared.error.PreparedBasisAnswer.{PreparedBasisAnswer}
+use Rattle.primus_decompose.specs.declared.error.PreparedBasisAnswer.the-variants as P
+use Rattle.primus_decompose.specs.Params.{basisBy, preparedOf, Ready, initOf, decomposerOf}
 
 -- a base log, or refusal 1
 abbrev pub baseLogAnswer : ℕ → DecompositionBaseLogAnswer
@@ -74,6 +76,15 @@ scalarAt d log L j = pick (ltb j L) (2 ^ (d + j * log) % 2 ^ 32) 0
 -- T, or the first of 1 to 5
 abbrev pub thresholdAnswer : ApproxSignedBasis → WordAnswer
 thresholdAnswer b = pick (eqb (firstOf (rows b)) 0) (W.Word (R.threshold (basis b))) (W.Refused (firstOf (rows b)))
+
+-- the constants, or the first of 1 to 5
+abbrev pub preparedAnswer : ApproxSignedBasis → PreparedBasisAnswer
+preparedAnswer b = pick (eqb (firstOf (rows b)) 0) (P.Ready (preparedOf (b .modulus) (b .«log_basis» .0) (b .«level_count» .0))) (P.Refused (firstOf (rows b)))
+
+-- the constants that are answered are those of an accepted basis
+abbrev pub WhereReady : PreparedBasisAnswer → Type 0
+WhereReady (P.Ready p) = Ready p
+WhereReady (P.Refused r) = Unit {0}
 
 -- the calls on one word judge 1 to 5 and 14
 abbrev pub wordRefusal : ApproxSignedBasis → ℕ → ℕ

@@ -3,6 +3,7 @@
 // 5 level count 0 or above the full count, 14 a word is not below q.
 use crate::parameters::DecompositionBaseLog;
 use crate::primitive::ApproxSignedBasis;
+use crate::primitive::PreparedBasis;
 use crate::primitive::Reading;
 use crate::primitive::SignedDecomposer;
 use crate::primitive::ValueCarry;
@@ -29,6 +30,11 @@ pub enum ValueCarryAnswer {
 
 pub enum DecomposerAnswer {
     Ready(SignedDecomposer),
+    Refused(u32),
+}
+
+pub enum PreparedBasisAnswer {
+    Ready(PreparedBasis),
     Refused(u32),
 }
 

@@ -10,3 +10,4 @@ pub use basis::Reading;
 pub use basis::ValueCarry;
 pub use common::SignedDecomposer;
 pub use common::Step;
+pub use params::PreparedBasis;

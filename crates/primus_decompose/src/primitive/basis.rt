@@ -6,17 +6,18 @@ ghost use Rattle.scheme.specs.Modulus.{bits};
 ghost use Rattle.scheme.specs.Basis.{bound, dropped};
 ghost use Rattle.scheme.specs.Checks.{firstOf};
 ghost use Rattle.primus_reduce.specs.Ring.{meant, powerOfTwo};
-ghost use Rattle.primus_decompose.specs.Answers.{levelCount, basisAnswer, basis, rows, baseWord, thresholdAnswer, wordRefusal, initAnswer, decomposerAnswer, weightWord, scalarAt};
+ghost use Rattle.primus_decompose.specs.Answers.{levelCount, basisAnswer, basis, rows, baseWord, thresholdAnswer, wordRefusal, initAnswer, decomposerAnswer, weightWord, scalarAt, preparedAnswer, WhereReady};
 ghost use Rattle.primus_decompose.specs.Params.{Ready, basisIn};
 use crate::error::ApproxSignedBasisAnswer;
 use crate::error::DecomposerAnswer;
+use crate::error::PreparedBasisAnswer;
 use crate::error::ValueCarryAnswer;
 use crate::error::WordAnswer;
 use crate::parameters::DecompositionBaseLog;
 use crate::parameters::DecompositionLevelCount;
 use crate::parameters::RetainedLevels;
 use crate::primitive::params;
-use crate::primitive::params::Params;
+use crate::primitive::params::PreparedBasis;
 use primus_reduce::Modulus;
 
 // A basis that try_new accepted: the fields are private, so there is no other. The calls judge it again all the same, so that
@@ -173,8 +174,19 @@ impl ApproxSignedBasis {
         DecomposerAnswer::Ready(params::decomposer(self.prepared(), value))
     }
 
-    // 1 to 5
-    pub(crate) fn refusal(self) -> u32
+    // The basis with its constants, for many words. Refuses by 1 to 5.
+    pub fn prepare(self) -> PreparedBasisAnswer
+        ensures { λ r. ⌜ (r ≡ preparedAnswer self) × WhereReady r ⌝ }
+    {
+        let r = self.refusal();
+        if r != 0 {
+            return PreparedBasisAnswer::Refused(r);
+        }
+        PreparedBasisAnswer::Ready(self.prepared())
+    }
+
+    // The first of 1 to 5 that applies, or 0.
+    pub fn refusal(self) -> u32
         ensures { λ r. ⌜ r ≡ firstOf (rows self) ⌝ }
     {
         let modulus = self.modulus;
@@ -192,7 +204,7 @@ impl ApproxSignedBasis {
         checks::refuse(r, checks::word_refused(modulus, value), 14)
     }
 
-    pub(crate) fn prepared(self) -> Params
+    pub(crate) fn prepared(self) -> PreparedBasis
         requires { ⌜ firstOf (rows self) ≡ 0 ⌝ }
         ensures { λ r. ⌜ Ready r × (basisIn r ≡ basis self) × (r .modulus ≡ self .modulus) × (r .«level_count» ≡ self .«level_count» .0) ⌝ }
     {

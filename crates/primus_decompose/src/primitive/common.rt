@@ -21,7 +21,7 @@ pub struct Step {
 }
 
 // ⌊x / 2^log⌋
-fn above(x: u32, log: u32) -> u32
+pub(crate) fn above(x: u32, log: u32) -> u32
     ensures { λ r. ⌜ r ≡ x / 2 ^ log ⌝ }
 {
     if log < 32 { x >> log } else { 0 }

@@ -7,14 +7,15 @@ ghost use Rattle.scheme.specs.Basis.{boundOf};
 ghost use Rattle.scheme.specs.Walk.{carryIn};
 ghost use Rattle.scheme.specs.Checks.{baseFails, fullFails, levelsFail, basisRefusal};
 ghost use Rattle.primus_reduce.specs.Ring.{meant, sizeOf};
-ghost use Rattle.primus_decompose.specs.Params.{Sized, wrapAt, Ready, basisIn, basisBy, initOf, decomposerOf};
+ghost use Rattle.primus_decompose.specs.Params.{Sized, wrapAt, Ready, basisIn, basisBy, adjustBy, initOf, decomposerOf, decomposerFrom};
 use crate::parameters;
 use crate::primitive::basis::ValueCarry;
+use crate::primitive::common;
 use crate::primitive::common::SignedDecomposer;
 use primus_reduce::Modulus;
 
-// q, base log, L, d, T, 2^k − q and q − B of an accepted basis.
-pub(crate) struct Params {
+// A basis with its constants, prepared once for many words: q, base log, L, d, T, 2^k − q and q − B.
+pub struct PreparedBasis {
     pub modulus: Modulus,
     pub log_basis: u32,
     pub level_count: usize,
@@ -134,7 +135,7 @@ fn wrap_threshold(log: u32, levels: u32, d: u32) -> u32
     (largest * power(d) + rounding) as u32
 }
 
-pub(crate) fn prepare(modulus: Modulus, log: u32, levels: usize) -> Params
+pub(crate) fn prepare(modulus: Modulus, log: u32, levels: usize) -> PreparedBasis
     requires { ⌜ basisRefusal 32 (meant modulus) log levels ≡ 0 ⌝ }
     ensures { λ r. ⌜ Ready r × (basisIn r ≡ basisBy modulus log levels) × (r .modulus ≡ modulus) × (r .«level_count» ≡ levels) ⌝ }
 {
@@ -142,7 +143,7 @@ pub(crate) fn prepare(modulus: Modulus, log: u32, levels: usize) -> Params
     let bits = modulus.value_bits();
     let count = levels as u32;
     let d = bits - count * log;
-    Params {
+    PreparedBasis {
         modulus,
         log_basis: log,
         level_count: levels,
@@ -153,27 +154,31 @@ pub(crate) fn prepare(modulus: Modulus, log: u32, levels: usize) -> Params
     }
 }
 
-// The highest dropped bit.
+// The highest dropped bit. A word has none above its 32.
 fn carry_in(v: u32, d: u32) -> bool
-    requires { ⌜ d ≤ 32 ⌝ }
     ensures { λ r. ⌜ r ≡ eqb (carryIn d v) 1 ⌝ }
 {
     if d == 0 {
         return false;
     }
+    if 32 < d {
+        return false;
+    }
     (v >> (d - 1)) % 2 == 1
 }
 
-// a below T, else a + 2^k − q
+// a below T, else a + 2^k − q, which wraps for no word below q.
 fn adjust(a: u32, threshold: u32, add: u32) -> u32
-    requires { ⌜ a + add < 2 ^ 32 ⌝ }
-    ensures { λ r. ⌜ r ≡ pick (ltb a threshold) a (a + add) ⌝ }
+    ensures { λ r. ⌜ r ≡ adjustBy threshold add a ⌝ }
 {
-    if a < threshold { a } else { a + add }
+    if a < threshold {
+        return a;
+    }
+    std::num::wrapping_add_u32(a, add)
 }
 
 // The adjusted word, and the carry into the lowest level.
-pub(crate) fn init(p: Params, a: u32) -> ValueCarry
+pub(crate) fn init(p: PreparedBasis, a: u32) -> ValueCarry
     requires { ⌜ Ready p × (a < sizeOf (p .modulus)) ⌝ }
     ensures { λ r. ⌜ r ≡ initOf (basisIn p) a ⌝ }
 {
@@ -185,15 +190,25 @@ pub(crate) fn init(p: Params, a: u32) -> ValueCarry
 }
 
 // The decomposer of a word, before its lowest level.
-pub(crate) fn decomposer(p: Params, a: u32) -> SignedDecomposer
+pub(crate) fn decomposer(p: PreparedBasis, a: u32) -> SignedDecomposer
     requires { ⌜ Ready p × (a < sizeOf (p .modulus)) ⌝ }
     ensures { λ r. ⌜ r ≡ decomposerOf (basisIn p) a ⌝ }
 {
-    let s = init(p, a);
-    SignedDecomposer {
-        value: s.value >> p.drop_bits,
-        carry: s.carry,
-        log_basis: p.log_basis,
-        modulus_minus_basis: p.modulus_minus_basis,
+    p.decomposer(a)
+}
+
+impl PreparedBasis {
+    // The decomposer of a word, before its lowest level.
+    pub fn decomposer(self, value: u32) -> SignedDecomposer
+        ensures { λ r. ⌜ r ≡ decomposerFrom self value ⌝ }
+    {
+        let adjusted = adjust(value, self.threshold, self.add);
+        let d = self.drop_bits;
+        SignedDecomposer {
+            value: common::above(adjusted, d),
+            carry: carry_in(adjusted, d),
+            log_basis: self.log_basis,
+            modulus_minus_basis: self.modulus_minus_basis,
+        }
     }
 }

@@ -11,7 +11,7 @@ use crate::error::ReadingAnswer;
 use crate::primitive::basis::ApproxSignedBasis;
 use crate::primitive::basis::Reading;
 use crate::primitive::params;
-use crate::primitive::params::Params;
+use crate::primitive::params::PreparedBasis;
 
 // a − b
 fn minus(a: u64, b: u64) -> i64
@@ -29,7 +29,7 @@ fn lifted_by(a: u32, threshold: u32, q: u64) -> u64
 }
 
 // ε is the dropped part of the adjusted word plus H, less H; the reading is a′ − ε.
-fn read(p: Params, a: u32) -> Reading
+fn read(p: PreparedBasis, a: u32) -> Reading
     requires { ⌜ Ready p × (a < sizeOf (p .modulus)) ⌝ }
     ensures { λ r. ⌜ r ≡ readingOf (basisIn p) a ⌝ }
 {

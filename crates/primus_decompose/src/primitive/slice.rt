@@ -11,7 +11,7 @@ ghost use Rattle.primus_decompose.specs.Column.{Column, Words};
 use crate::primitive::basis::ApproxSignedBasis;
 use crate::primitive::common::SignedDecomposer;
 use crate::primitive::params;
-use crate::primitive::params::Params;
+use crate::primitive::params::PreparedBasis;
 
 // Writes the digits of one word at place i of each of the `levels` runs of `count` words.
 fn write_column(out: &mut [u32], start: SignedDecomposer, levels: usize, count: usize, i: usize)
@@ -29,7 +29,7 @@ fn write_column(out: &mut [u32], start: SignedDecomposer, levels: usize, count: 
 }
 
 // Writes the digits of every word.
-fn write_columns(out: &mut [u32], values: &[u32], p: Params)
+fn write_columns(out: &mut [u32], values: &[u32], p: PreparedBasis)
     requires { ⌜ Ready p × Words (sizeOf (p .modulus)) (now values) × (length (now out) ≡ p .«level_count» * length (now values)) ⌝ }
     ensures { λ _. ⌜ now (out .exit) ≡ runsOf (basisIn p) (now (values .entry)) ⌝ }
 {

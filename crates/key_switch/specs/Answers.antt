@@ -1,0 +1,76 @@
+-- The refusals of the calls, and their answers.
+use mathlib.Core.Path.{_≡_}
+use mathlib.Core.Bool.{Bool, not, _||_}
+use mathlib.Core.List.{List, [], _∷_, _++_}
+use Prim.Native.Nat.{ℕ, _+_, _*_, _/_, _<_, _≤_}
+use lib.Dec.{eqb, leb}
+use lib.ListN.{length}
+use Rattle.scheme.specs.Numbers.{pick}
+use Rattle.scheme.specs.Switch.{Below, entryOf}
+use Rattle.scheme.specs.Checks.{Check, row, firstOf, dimensionFails, lengthFails, batchFails, wordsFail}
+use Rattle.primus_reduce.specs.Ring.{sizeOf}
+use Rattle.primus_decompose.specs.Answers.{rows}
+use Rattle.key_switch.specs.declared.parameters.LweKeySwitchingParameters.{LweKeySwitchingParameters}
+use Rattle.key_switch.specs.declared.parameters.LweKeySwitchingParametersAnswer.{LweKeySwitchingParametersAnswer}
+use Rattle.key_switch.specs.declared.parameters.LweKeySwitchingParametersAnswer.the-variants as A
+use Rattle.key_switch.specs.declared.parameters.Sizes.{Sizes}
+
+-- q, n, m and L
+abbrev pub sizesOf : LweKeySwitchingParameters → Sizes
+sizesOf P = record { modulus = P .basis .modulus; n = P .«input_dimension» .0; m = P .«output_dimension» .0; levels = P .basis .«level_count» .0 }
+
+-- 1 to 5, and 6 for n and m
+abbrev pub parameterRows : LweKeySwitchingParameters → List Check
+parameterRows P = rows (P .basis) ++ row (dimensionFails (P .«input_dimension» .0)) 6 ∷ row (dimensionFails (P .«output_dimension» .0)) 6 ∷ []
+
+abbrev pub parametersAnswer : LweKeySwitchingParameters → LweKeySwitchingParametersAnswer
+parametersAnswer P = pick (eqb (firstOf (parameterRows P)) 0) (A.Accepted P) (A.Refused (firstOf (parameterRows P)))
+
+-- a batch of `input` into `room` words: also 9, 10, 11 and 14, the key before the input
+abbrev pub batchRows : Sizes → List ℕ → List ℕ → ℕ → List Check
+batchRows z key input room =
+    row (lengthFails (length key) (z .n * z .levels * (z .m + 1))) 9
+    ∷ row (batchFails (length input) (z .n)) 10
+    ∷ row (lengthFails room (length input / (z .n + 1) * (z .m + 1))) 11
+    ∷ row (wordsFail (sizeOf (z .modulus)) key) 14
+    ∷ row (wordsFail (sizeOf (z .modulus)) input) 14
+    ∷ []
+
+unfoldable pub batchRefusal : LweKeySwitchingParameters → List ℕ → List ℕ → ℕ → ℕ
+batchRefusal P key input room = firstOf (parameterRows P ++ batchRows (sizesOf P) key input room)
+
+-- one ciphertext
+abbrev pub switchRows : Sizes → List ℕ → List ℕ → ℕ → List Check
+switchRows z key input room =
+    row (lengthFails (length key) (z .n * z .levels * (z .m + 1))) 9
+    ∷ row (lengthFails (length input) (z .n + 1)) 10
+    ∷ row (lengthFails room (z .m + 1)) 11
+    ∷ row (wordsFail (sizeOf (z .modulus)) key) 14
+    ∷ row (wordsFail (sizeOf (z .modulus)) input) 14
+    ∷ []
+
+unfoldable pub switchRefusal : LweKeySwitchingParameters → List ℕ → List ℕ → ℕ → ℕ
+switchRefusal P key input room = firstOf (parameterRows P ++ switchRows (sizesOf P) key input room)
+
+-- what they leave, for `count` ciphertexts
+pub record Switchable (P : LweKeySwitchingParameters) (key input : List ℕ) (count room : ℕ) : Type 0 where
+  pub accepted : firstOf (rows (P .basis)) ≡ 0
+  pub short : P .«input_dimension» .0 ≤ 2048
+  pub narrow : P .«output_dimension» .0 ≤ 2048
+  pub keyed : length key ≡ P .«input_dimension» .0 * P .basis .«level_count» .0 * (P .«output_dimension» .0 + 1)
+  pub inputs : length input ≡ count * (P .«input_dimension» .0 + 1)
+  pub fits : room ≡ count * (P .«output_dimension» .0 + 1)
+  pub keys : Below (sizeOf (P .basis .modulus)) key
+  pub words : Below (sizeOf (P .basis .modulus)) input
+
+-- the key alone, of `len` words: 1 to 6 and 9
+unfoldable pub keyRefusal : LweKeySwitchingParameters → Sizes → ℕ → ℕ
+keyRefusal P z len = firstOf (parameterRows P ++ row (lengthFails len (z .n * z .levels * (z .m + 1))) 9 ∷ [])
+
+-- these papers leave open what a key that is refused, or one without such an entry, hands out: an empty part
+abbrev pub entryMissing : LweKeySwitchingParameters → ℕ → ℕ → ℕ → Bool
+entryMissing P len i j = not (eqb (keyRefusal P (sizesOf P) len) 0) || leb (P .«input_dimension» .0) i || leb (P .basis .«level_count» .0) j
+
+-- "one entry is handed out as that part of the caller's key"
+abbrev pub entryAnswer : LweKeySwitchingParameters → List ℕ → ℕ → ℕ → List ℕ
+entryAnswer P key i j = pick (entryMissing P (length key) i j) [] (entryOf (P .basis .«level_count» .0) (P .«output_dimension» .0) key i j)

@@ -1,0 +1,24 @@
+// The parameters of a record, which no try_new has judged: each call judges them by itself.
+use crate::record::Head;
+use primus_lattice::LweDimension;
+use primus_lwe::LweEncryptionParameters;
+use primus_lwe::LweParameters;
+
+pub(crate) fn encryption(h: Head, dimension: LweDimension) -> LweEncryptionParameters {
+    let modulus = h.modulus;
+    LweEncryptionParameters {
+        dimension,
+        modulus,
+        bound: h.bound,
+    }
+}
+
+pub(crate) fn message(h: Head, dimension: LweDimension) -> LweParameters {
+    let modulus = h.modulus;
+    LweParameters {
+        dimension,
+        modulus,
+        plaintext_modulus: h.t,
+        bound: h.bound,
+    }
+}
