@@ -160,8 +160,7 @@ class Pick:
         self.draw, self.modulus, self.n = draw, modulus, n
         self.q = q = 2**32 if modulus is None else modulus
         most = min(q - 1, LIMIT) if q else 0
-        self.E = draw.choose([0, 1, 3, most, draw.below(most + 1)]) if E is None else E
-        self.E = min(self.E, most) if E is None else E
+        self.E = min(draw.choose([0, 1, 3, most, draw.below(most + 1)]), most) if E is None else E
         most = min(q - 1, 65536) if q > 2 else 2
         plain = [x for x in (2, 3, 4, 7, 16, 256, 1000, 65536, most) if x <= most]
         self.t = draw.choose(plain) if t is None else t
@@ -216,7 +215,6 @@ class Call:
     takes_E = False
     # The fields that 9 to 12, 14, 15 and 16 speak of.
     fields = {}
-    lattice = ()
 
     @property
     def numbers(self):
@@ -291,7 +289,7 @@ class Call:
         if not words:
             return
         for w in bad:
-            for place in {0, len(words) - 1, draw.below(len(words))}:
+            for place in sorted({0, len(words) - 1, draw.below(len(words))}):
                 yield replace(k, **{name: words[:place] + [w] + words[place + 1 :]})
 
 
@@ -832,6 +830,7 @@ class PublicMessage(PublicEncoded):
 
 def record(call, k):
     applying = call.applying(k)
+    assert not {2, 6} <= applying
     refusal = min(applying, default=0)
     answer, after = (0, k.out) if refusal else call.result(k)
     assert len(after) == len(k.out) and all(0 <= w < 2**32 for w in after)
@@ -863,6 +862,18 @@ def accepted(call):
             for _ in range(2 if n < 4 else 1):
                 yield call.make(Pick(draw, modulus, n))
     yield call.make(Pick(draw, 2**32 - 5, 16))
+
+
+def embeddings(call):
+    """Messages of t/2 where q is odd and t even: Centered is one less than Unsigned."""
+    if 16 not in call.fields:
+        return
+    draw = Draw(700 + call.kind)
+    for modulus in (17, 2**31 - 1, 2**32 - 5):
+        for t in (2, 4, 16):
+            k = call.make(Pick(draw, modulus, 2, t=t))
+            message = {"c": [t // 2] * len(k.c)} if "c" in call.fields[16] else {"value": t // 2}
+            yield from (replace(k, centered=centered, **message) for centered in (False, True))
 
 
 def bounds(call):
@@ -923,7 +934,7 @@ def refused(call, chosen, draw, tries=200):
             modulus = 3 if call.takes_t else draw.choose([1, 2, 3])
         n = 1 + draw.below(min(4, most(call)))
         k = call.make(Pick(draw, modulus, n))
-        for number in sorted(chosen, key=lambda _: draw.below(100)):
+        for number in sorted(sorted(chosen), key=lambda _: draw.below(100)):
             if number not in call.applying(k):
                 options = list(call.faults(k, number, draw))
                 if options:
@@ -945,10 +956,9 @@ def alone(call):
             bases = [call.make(Pick(draw, modulus, 0)) for modulus in (17, None) if not isinstance(call, Extract)]
         else:
             bases = []
-            for modulus in draw.choose([[17, None], [16, 2**31 - 1], [65536, 2**32 - 5]]), [17, 2**31 - 1]:
-                for m in modulus:
-                    k = call.make(Pick(draw, m, 2 + draw.below(2)))
-                    bases += call.faults(k, number, draw)
+            for modulus in (17, 2**31 - 1, *draw.choose([(17, None), (16, 2**31 - 1), (65536, 2**32 - 5)])):
+                k = call.make(Pick(draw, modulus, 2 + draw.below(2)))
+                bases += call.faults(k, number, draw)
         for k in bases:
             if call.applying(k) == {number}:
                 seen += 1
@@ -966,8 +976,7 @@ def pairs(call):
                 for _ in range(2):
                     k = refused(call, (x, y), draw)
                     assert k is not None, (call.name, x, y)
-                    if not {2, 6} <= call.applying(k):
-                        yield k
+                    yield k
     if len(numbers) > 3:
         for _ in range(16):
             chosen = {draw.choose(numbers) for _ in range(3 + draw.below(3))} - {6}
@@ -980,9 +989,9 @@ def long_cases():
     """Dimension 2,048, and larger public keys."""
     draw = Draw(600)
     for call, modulus, *count in (
-        (Add, 2**32 - 5), (Extract, 65536, 2048), (EncryptEncoded, 2**32 - 5), (EncryptEncodedSigned, None), (Phase, None),
-        (PhaseSigned, 2**31 - 1), (OpenSigned, 2**32 - 5), (PackEncoded, 2**32 - 5, 2048), (PackPhases, None, 2048),
-        (BatchPhases, 2**31 - 1, 1), (PackOpen, 17, 3),
+        (Add, 2**32 - 5), (Extract, 65536, 2048), (EncryptEncoded, 2**32 - 5), (EncryptEncodedSigned, None),
+        (Phase, None), (PhaseSigned, 2**31 - 1), (OpenSigned, 2**32 - 5), (PackEncoded, 2**32 - 5, 2048),
+        (PackPhases, None, 2048), (BatchPhases, 2**31 - 1, 1), (PackOpen, 17, 3),
     ):
         yield call, call().make(Pick(draw, modulus, 2048), *count)
     # The dimension alone is refused.
@@ -1004,9 +1013,9 @@ def marks():
         (2, 0), (2, 1), (3, 1), (4, 2), (5, 3), (16, 1000), (255, 7), (65536, 1), (65536, 32767), (65535, 32768),
     ):
         equal = 2 * t * tally + t
-        for modulus in {equal - 1, equal, equal + 1}:
+        for modulus in (equal - 1, equal, equal + 1):
             if modulus < 2**32:
-                for a in {max(tally - 1, 0), tally, tally + 1}:
+                for a in sorted({max(tally - 1, 0), tally, tally + 1}):
                     yield Case(modulus, 1, t=t, a=tag(GIVEN, a))
                     yield Case(modulus, 1, t=t, a=tag(FRESH, a))
     for modulus in MODULI:
@@ -1014,7 +1023,7 @@ def marks():
             for a in TALLIES:
                 yield Case(modulus, 1, t=t, a=a)
             edge = ((2**32 if modulus is None else modulus) - t) // (2 * t)
-            for a in {max(edge - 1, 0), max(edge, 0), max(edge + 1, 0)}:
+            for a in sorted({max(edge - 1, 0), max(edge, 0), max(edge + 1, 0)}):
                 yield Case(modulus, 1, t=t, a=tag(GIVEN, a))
 
 
@@ -1042,6 +1051,7 @@ def cases(call):
     if isinstance(call, Mark):
         yield from marks()
     yield from accepted(call)
+    yield from embeddings(call)
     yield from bounds(call)
     yield from signed_keys(call)
     yield from counts(call)

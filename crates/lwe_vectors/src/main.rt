@@ -101,20 +101,13 @@ fn cut(
 
 fn right(h: Head, l: Lengths, bytes: &[u8; 65536]) -> bool {
     let p = record::places_of(l, h.refusal);
-    let mut a = [0u32; 4096];
-    let mut b = [0u32; 4096];
-    let mut c = [0u32; 2048];
-    let mut d = [0i32; 2048];
-    let mut e = [0i32; 2048];
-    let mut out = [0u32; 4096];
-    let mut after = [0u32; 4096];
-    record::words(&mut a, bytes, 0);
-    record::words(&mut b, bytes, p.b);
-    record::words(&mut c, bytes, p.c);
-    record::numbers(&mut d, bytes, p.d);
-    record::numbers(&mut e, bytes, p.e);
-    record::words(&mut out, bytes, p.before);
-    record::words(&mut after, bytes, p.after);
+    let a = record::words(bytes, 0);
+    let b = record::words(bytes, p.b);
+    let c = record::words(bytes, p.c);
+    let d = record::numbers(bytes, p.d);
+    let e = record::numbers(bytes, p.e);
+    let mut out = record::words(bytes, p.before);
+    let after = record::words(bytes, p.after);
     let s = cut(h, l, &a, &b, &c, &d, &e, &mut out);
     s.refusal == h.refusal && s.value == h.answer && record::same(&out, &after, l.out)
 }

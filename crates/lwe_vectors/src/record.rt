@@ -118,14 +118,16 @@ pub(crate) fn places_of(l: Lengths, refusal: u32) -> Places {
 }
 
 // Words of the record from `from` on.
-pub(crate) fn words(room: &mut [u32], bytes: &[u8], from: usize) {
+pub(crate) fn words(bytes: &[u8; 65536], from: usize) -> [u32; 4096] {
+    let mut room = [0u32; 4096];
     let mut i = 0;
     let mut at = from;
-    while i < room.len() {
+    while i < 4096 {
         room[i] = little_endian::u32_at(bytes, at);
         at = std::num::wrapping_add_usize(at, 4);
         i += 1;
     }
+    room
 }
 
 // A word as the signed number of the same bits.
@@ -137,14 +139,16 @@ fn signed(w: u32) -> i32 {
     !(m as i32)
 }
 
-pub(crate) fn numbers(room: &mut [i32], bytes: &[u8], from: usize) {
+pub(crate) fn numbers(bytes: &[u8; 65536], from: usize) -> [i32; 2048] {
+    let mut room = [0i32; 2048];
     let mut i = 0;
     let mut at = from;
-    while i < room.len() {
+    while i < 2048 {
         room[i] = signed(little_endian::u32_at(bytes, at));
         at = std::num::wrapping_add_usize(at, 4);
         i += 1;
     }
+    room
 }
 
 // The first `count` words are the same.

@@ -55,6 +55,18 @@ tried r m b n = pick (eqb r 0) (A.Accepted (record { modulus = m; «log_basis» 
 abbrev pub basisAnswer : Modulus → DecompositionBaseLog → RetainedLevels → ApproxSignedBasisAnswer
 basisAnswer m b l = tried (basisRefusal 32 (meant m) (b .0) (levelCount m (b .0) l)) m b (levelCount m (b .0) l)
 
+-- from plain numbers: levels, 0 where they are left open
+abbrev pub levelsFor : ℕ → RetainedLevels
+levelsFor n = pick (eqb n 0) Full (Count (record { 0 = n }))
+
+-- the basis of these numbers, or the first of 1 to 5: 1 is the base log's own
+abbrev pub madeFrom : Modulus → RetainedLevels → DecompositionBaseLogAnswer → ApproxSignedBasisAnswer
+madeFrom m l (L.Accepted b) = basisAnswer m b l
+madeFrom m l (L.Refused n) = A.Refused n
+
+abbrev pub made : Modulus → ℕ → RetainedLevels → ApproxSignedBasisAnswer
+made m b l = madeFrom m l (baseLogAnswer b)
+
 -- the basis that a value stands for
 abbrev pub basis : ApproxSignedBasis → B.Basis
 basis b = basisBy (b .modulus) (b .«log_basis» .0) (b .«level_count» .0)

@@ -1,5 +1,6 @@
 // Approximate signed decomposition: the gadget basis, readings and digits, for words of 32 bits.
 mod error;
+mod numbers;
 mod parameters;
 mod primitive;
 
@@ -10,6 +11,8 @@ pub use error::PreparedBasisAnswer;
 pub use error::ReadingAnswer;
 pub use error::ValueCarryAnswer;
 pub use error::WordAnswer;
+pub use numbers::basis_for;
+pub use numbers::levels_for;
 pub use parameters::DecompositionBaseLog;
 pub use parameters::DecompositionConfig;
 pub use parameters::DecompositionLevelCount;

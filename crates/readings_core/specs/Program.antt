@@ -11,16 +11,14 @@ use Rattle.little_endian.specs.Bytes.{word32}
 use Rattle.primus_reduce.specs.Ring.{meant, modulusFor, numberOf}
 use Rattle.primus_reduce.specs.declared.modulus.Modulus.{Modulus}
 use Rattle.primus_decompose.specs.Answers as A
+use Rattle.primus_decompose.specs.Answers.{levelsFor, made}
 use Rattle.primus_decompose.specs.declared.error.ApproxSignedBasisAnswer.{ApproxSignedBasisAnswer}
 use Rattle.primus_decompose.specs.declared.error.ApproxSignedBasisAnswer.the-variants as Tried
-use Rattle.primus_decompose.specs.declared.error.DecompositionBaseLogAnswer.{DecompositionBaseLogAnswer}
-use Rattle.primus_decompose.specs.declared.error.DecompositionBaseLogAnswer.the-variants as Log
 use Rattle.primus_decompose.specs.declared.error.ReadingAnswer.{ReadingAnswer}
 use Rattle.primus_decompose.specs.declared.error.ReadingAnswer.the-variants as E
 use Rattle.primus_decompose.specs.declared.error.WordAnswer.{WordAnswer}
 use Rattle.primus_decompose.specs.declared.error.WordAnswer.the-variants as W
 use Rattle.primus_decompose.specs.declared.parameters.RetainedLevels.{RetainedLevels}
-use Rattle.primus_decompose.specs.declared.parameters.RetainedLevels.the-variants as Levels
 use Rattle.primus_decompose.specs.declared.primitive.basis.ApproxSignedBasis.{ApproxSignedBasis}
 use Rattle.readings_core.specs.declared.command.Session.{Session}
 use Rattle.readings_core.specs.declared.command.Session.the-variants.{Empty, Ready}
@@ -32,18 +30,6 @@ use Rattle.readings_core.specs.declared.command.Turn.{Turn}
 -- "01: modulus (4 bytes), base log (1), levels (1). 02: word (4)."
 abbrev pub operands : ℕ → ℕ
 operands c = pick (eqb c 1) 6 (pick (eqb c 2) 4 0)
-
--- "levels (1, 0 = left open)"
-abbrev pub levelsFor : ℕ → RetainedLevels
-levelsFor n = pick (eqb n 0) Levels.Full (Levels.Count (record { 0 = n }))
-
--- the basis of these numbers, or the first of 1 to 5: 1 is the base log's own
-abbrev pub madeFrom : Modulus → RetainedLevels → DecompositionBaseLogAnswer → ApproxSignedBasisAnswer
-madeFrom m l (Log.Accepted b) = A.basisAnswer m b l
-madeFrom m l (Log.Refused n) = Tried.Refused n
-
-abbrev pub made : Modulus → ℕ → RetainedLevels → ApproxSignedBasisAnswer
-made m b l = madeFrom m l (A.baseLogAnswer b)
 
 -- "`basis` q (0 = native) k base-log L d H T"
 abbrev pub basisLine : ApproxSignedBasis → ℕ → BasisReply

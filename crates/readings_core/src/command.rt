@@ -1,15 +1,14 @@
 // One command: what it answers, and what it leaves for the next.
 ghost use mathlib.Core.Path.{_≡_};
 ghost use Prim.Native.Nat.{_≤_};
-ghost use Rattle.readings_core.specs.Program.{operands, levelsFor, made, basisLine, basisReply, go, basisTurn, wordReply, wordTurn, over, basisCommand, wordCommand, turnOf};
+ghost use Rattle.readings_core.specs.Program.{operands, basisLine, basisReply, go, basisTurn, wordReply, wordTurn, over, basisCommand, wordCommand, turnOf};
 use primus_decompose::ApproxSignedBasis;
 use primus_decompose::ApproxSignedBasisAnswer;
-use primus_decompose::DecompositionBaseLog;
-use primus_decompose::DecompositionBaseLogAnswer;
-use primus_decompose::DecompositionLevelCount;
 use primus_decompose::ReadingAnswer;
 use primus_decompose::RetainedLevels;
 use primus_decompose::WordAnswer;
+use primus_decompose::basis_for;
+use primus_decompose::levels_for;
 use primus_reduce::Modulus;
 
 // The basis that was accepted last, if any.
@@ -62,26 +61,6 @@ pub fn operand_count(command: u8) -> usize
     0
 }
 
-// 0 is left open.
-fn levels_for(n: u32) -> RetainedLevels
-    ensures { λ r. ⌜ r ≡ levelsFor n ⌝ }
-{
-    if n == 0 {
-        return RetainedLevels::Full;
-    }
-    RetainedLevels::Count(DecompositionLevelCount::new(n as usize))
-}
-
-// A basis from plain numbers: check 1 is the base log's own.
-fn make(modulus: Modulus, log: u32, levels: RetainedLevels) -> ApproxSignedBasisAnswer
-    ensures { λ r. ⌜ r ≡ made modulus log levels ⌝ }
-{
-    match DecompositionBaseLog::try_new(log) {
-        DecompositionBaseLogAnswer::Accepted(b) => ApproxSignedBasis::try_new(modulus, b, levels),
-        DecompositionBaseLogAnswer::Refused(n) => ApproxSignedBasisAnswer::Refused(n),
-    }
-}
-
 fn basis_reply(b: ApproxSignedBasis) -> Reply
     ensures { λ r. ⌜ r ≡ basisReply b ⌝ }
 {
@@ -123,7 +102,7 @@ fn next(reply: Reply, session: Session) -> Turn
 fn on_basis(session: Session, modulus: Modulus, log: u32, levels: RetainedLevels) -> Turn
     ensures { λ r. ⌜ r ≡ basisTurn session modulus log levels ⌝ }
 {
-    match make(modulus, log, levels) {
+    match basis_for(modulus, log, levels) {
         ApproxSignedBasisAnswer::Accepted(b) => next(basis_reply(b), Session::Ready(b)),
         ApproxSignedBasisAnswer::Refused(n) => next(Reply::Refused(n), session),
     }

@@ -1,10 +1,13 @@
 // The calls of the C service. include/saigagalena.h declares them for C and C++.
+mod switch;
+
 ghost use mathlib.Core.Path.{_≡_};
 ghost use Rattle.saigagalena.specs.Service.{answerNumber, decodeNumber};
 use primus_encoding::RoundedCodec;
 use primus_encoding::RoundedCodecAnswer;
 use primus_encoding::WordAnswer;
 use primus_reduce::Modulus;
+pub use switch::saigagalena_key_switch_batch;
 
 // The word, or 2^32 plus the refusal number.
 fn number_of(answer: WordAnswer) -> u64

@@ -1,21 +1,16 @@
-use mathlib.Core.Path.{_≡_, refl}
 use native.Mathlib.Omega.{arith}
 use Prim.Native.Nat.{_≤_, _-_}
-use lib.ListN.{length, length-set}
 use Rattle.lwe_vectors.proofs.record.numbers.Statement.{statement}
 use Rattle.lwe_vectors.proofs.record.numbers.Tie as tie
 
 abbrev Inv-loop : tie.InvT-loop
-Inv-loop room₀ bytes from i₀ at₀ room i at = (i ≤ length room) × (length room ≡ length room₀)
+Inv-loop bytes from room₀ i₀ at₀ room i at = (i ≤ 2048)
 
 abbrev μ-loop : tie.MeasureT-loop
-μ-loop room₀ bytes from i₀ at₀ room i at = length room₀ - i
-
-loop-again : tie.Need-loop-again Inv-loop μ-loop
-loop-again c = let l = c .before .before .before .before in (simp length-set (omega arith), simp length-set (l .loop .inv .1))
+μ-loop bytes from room₀ i₀ at₀ room i at = 2048 - i
 
 pub numbers-spec : {M : Type 1} → statement M
 numbers-spec =
     tie.close
-    (tie.spec Inv-loop μ-loop (λ c. (omega arith, refl)) (λ c κs. tt) (λ c κs. tt) (λ c. omega arith) (λ c. omega arith)
-    (λ c κs. tt) (λ c. omega arith) (λ c. omega arith) loop-again (λ c. c .before .loop .inv .1) (λ c. tt))
+    (tie.spec Inv-loop μ-loop (λ c. omega arith) (λ c κs. tt) (λ c κs. tt) (λ c. omega arith) (λ c. omega arith) (λ c κs. tt)
+    (λ c. omega arith) (λ c. omega arith) (λ c. omega arith) (λ c. tt))

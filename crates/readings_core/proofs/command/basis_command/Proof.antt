@@ -1,7 +1,7 @@
 use mathlib.Core.Path.{ap, _∙_}
 use borrow.Author.Tests.{lt-leb, le-leb}
 use Rattle.primus_reduce.specs.Ring.{modulusFor}
-use Rattle.readings_core.specs.Program.{levelsFor}
+use Rattle.primus_decompose.specs.Answers.{levelsFor}
 use Rattle.readings_core.proofs.Laws.{same-basis}
 use Rattle.readings_core.proofs.command.basis_command.Statement.{statement}
 use Rattle.readings_core.proofs.command.basis_command.Tie as tie

@@ -1,8 +1,8 @@
 use mathlib.Core.Path.{ap, sym, _∙_}
 use borrow.Author.Needs.{needs}
-use Rattle.readings_core.specs.Program.{madeFrom}
-use Rattle.readings_core.proofs.command.make.Statement.{statement}
-use Rattle.readings_core.proofs.command.make.Tie as tie
+use Rattle.primus_decompose.specs.Answers.{madeFrom}
+use Rattle.primus_decompose.proofs.numbers.basis_for.Statement.{statement}
+use Rattle.primus_decompose.proofs.numbers.basis_for.Tie as tie
 
 returns : tie.Need-returns
 returns c =
@@ -16,5 +16,5 @@ returns-2 c =
     let s = n .before .before .before in
     ap (madeFrom (s .args .modulus) (s .args .levels)) (sym (n .n .given .1) ∙ n .before .before .try-new .ensures)
 
-pub make-spec : {M : Type 1} → statement M
-make-spec = tie.close (tie.spec (λ c κs. tt) (λ c. search needs) (λ c κs. tt) (λ c. search needs) returns returns-2)
+pub basis-for-spec : {M : Type 1} → statement M
+basis-for-spec = tie.close (tie.spec (λ c κs. tt) (λ c. search needs) (λ c κs. tt) (λ c. search needs) returns returns-2)

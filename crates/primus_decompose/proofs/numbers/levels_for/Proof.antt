@@ -1,8 +1,8 @@
 use mathlib.Core.Path.{ap, _∙_}
 use borrow.Author.Tests.{eq-eqb, ne-eqb}
 use Rattle.primus_decompose.specs.declared.parameters.RetainedLevels.the-variants.{Count}
-use Rattle.readings_core.proofs.command.levels_for.Statement.{statement}
-use Rattle.readings_core.proofs.command.levels_for.Tie as tie
+use Rattle.primus_decompose.proofs.numbers.levels_for.Statement.{statement}
+use Rattle.primus_decompose.proofs.numbers.levels_for.Tie as tie
 
 returns : tie.Need-returns
 returns c = rw (eq-eqb _ 0 (c .if1 .taken))
