@@ -1,6 +1,6 @@
 """The supplied Rust beside document 01, word for word.
 
-    python3 oracle/compare.py PROGRAM [SEED]
+    python3 oracle/compare.py PROGRAM SEED [PROVED]
 
 PROGRAM is what scripts/oracle.sh builds; oracle/README.md has its calls. Three comparisons:
 
@@ -8,6 +8,9 @@ PROGRAM is what scripts/oracle.sh builds; oracle/README.md has its calls. Three 
   they hold of accepted calls is what both sides write when they are fed the same words;
 - digits of every word, for every q up to 200, every base log and every level count;
 - random key-switching keys, switches and batches against 01's formulas, from SEED on.
+
+PROVED is oracle/served.rs over the proved library; it answers decodings and batches, and what it answers is
+compared with the Rust directly, also for larger batches.
 
 The last lines say what the Rust did with calls that 01 refuses; docs/DIFFERENCES.md is about those.
 """
@@ -71,7 +74,7 @@ class Tally:
         if expected != got:
             self.different += 1
             if self.different <= 10:
-                print(f"differs: {name} {record}\n  document 01 {expected}\n  the Rust    {got}")
+                print(f"differs: {name} {record}\n  expected {expected}\n  the Rust {got}")
 
     def refused(self, number, status):
         self.refusals[number, status] += 1
@@ -129,13 +132,16 @@ def stored_digits(rust, tally):
     flush()
 
 
-def stored_codec(rust, tally):
+def stored_codec(rust, tally, proved):
     data = (ROOT / "crates/codec_vectors/data/codec.bin").read_bytes()
     at = 0
 
     def compare(name, number, expected, *record):
         if number == 0:
-            tally.same(name, record, expected, rust.words(*record))
+            got = rust.words(*record)
+            tally.same(name, record, expected, got)
+            if proved and record[0] == 11:
+                tally.same("decodings, the proved library and the Rust", record, proved.words(*record), got)
         elif expressible(record[1]):
             tally.refused(number, rust.say(*record)[0])
 
@@ -274,7 +280,7 @@ def random_basis(draw):
     return modulus, log, draw.choose([0, 1, full, 1 + draw.below(full)])
 
 
-def switches(rust, tally, seed, rounds):
+def switches(rust, tally, seed, rounds, proved):
     example = Basis(17, 2)
     assert switched(example, 1, 1, [3, 5, 4, 13], [9, 12]) == switched(example, 1, 1, [3, 5, 4, 13], [10, 12]) == [10, 11]
     draw = Draw(seed)
@@ -297,19 +303,37 @@ def switches(rust, tally, seed, rounds):
         if rows:
             got = rust.words(51, *record, n, m, key, rows[0])
             tally.same("single switches", (*record, n, m, key, rows[0]), expected[0], got)
-        got = rust.words(52, *record, n, m, key, [w for x in rows for w in x])
-        tally.same("batches", (*record, n, m, key, rows), [w for x in expected for w in x], got)
+        batch = [52, *record, n, m, key, [w for x in rows for w in x]]
+        got = rust.words(*batch)
+        tally.same("batches", batch, [w for x in expected for w in x], got)
+        if proved:
+            tally.same("batches, the proved library and the Rust", batch, proved.words(*batch), got)
+
+
+def larger_batches(rust, tally, seed, rounds, proved):
+    """No formula in Python: the proved library beside the Rust."""
+    draw = Draw(seed)
+    for _ in range(rounds):
+        modulus, log, levels = random_basis(draw)
+        L = levels or Basis(modulus, log).full
+        n, m, count = 1 + draw.below(80), 1 + draw.below(80), draw.below(30)
+        pick = Pick(draw, modulus, n)
+        batch = [52, modulus, log, levels, n, m, pick.words(n * L * (m + 1)), pick.words(count * (n + 1))]
+        tally.same("larger batches, the proved library and the Rust", batch[:6], proved.words(*batch), rust.words(*batch))
 
 
 def main():
-    if len(sys.argv) not in (2, 3):
-        sys.exit("usage: compare.py PROGRAM [SEED]")
-    rust, tally = Program(sys.argv[1]), Tally()
+    if len(sys.argv) not in (3, 4):
+        sys.exit("usage: compare.py PROGRAM SEED [PROVED]")
+    rust, seed, tally = Program(sys.argv[1]), int(sys.argv[2]), Tally()
+    proved = Program(sys.argv[3]) if len(sys.argv) == 4 else None
     stored_digits(rust, tally)
-    stored_codec(rust, tally)
+    stored_codec(rust, tally, proved)
     stored_lwe(rust, tally)
     every_word(rust, tally, 200)
-    switches(rust, tally, int(sys.argv[2]) if len(sys.argv) == 3 else 1, 2000)
+    switches(rust, tally, seed, 2000, proved)
+    if proved:
+        larger_batches(rust, tally, seed, 200, proved)
     for name, count in tally.compared.items():
         print(f"{count:8} {name}")
     print(f"{sum(tally.compared.values())} compared, {tally.different} different\n")

@@ -1,9 +1,10 @@
 #!/bin/sh
 # Builds the supplied Rust files, byte for byte, over the shims of oracle/crates (oracle/README.md says what
 # those supply), offline, with rustc alone. No part of the gate.
-#   scripts/oracle.sh            builds target/oracle/oracle and compares it with document 01's formulas
+#   scripts/oracle.sh [SEED]     builds target/oracle/oracle and compares it with document 01
 #   scripts/oracle.sh build      builds it only
-# The supplied files stand in ../shared/docs/src, or where PRIMUS_SRC says.
+# The supplied files stand in ../shared/docs/src, or where PRIMUS_SRC says. Where ARCHIVE names the proved
+# library (rt staticlib saigagalena writes target/staticlib/libsaigagalena.a), its C calls are compared too.
 set -eu
 cd "$(dirname "$0")/.."
 src=${PRIMUS_SRC:-../shared/docs/src}/crates
@@ -64,4 +65,11 @@ done
 rustc --edition 2024 -C opt-level=2 -C debug-assertions=on -C overflow-checks=on -L dependency="$build" $externs \
     oracle/driver.rs -o "$build/oracle"
 echo "oracle: $build/oracle is built"
-[ "${1:-}" = build ] || python3 oracle/compare.py "$build/oracle" "$@"
+[ "${1:-}" != build ] || exit 0
+proved=
+if [ -n "${ARCHIVE:-}" ]; then
+    cp "$ARCHIVE" "$build/libsaigagalena.a"
+    proved=$build/served
+    rustc --edition 2024 -C opt-level=2 -L native="$build" -l static=saigagalena oracle/served.rs -o "$proved"
+fi
+python3 oracle/compare.py "$build/oracle" "${1:-1}" ${proved:+"$proved"}
