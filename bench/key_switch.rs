@@ -92,14 +92,9 @@ impl Words {
     fn below(&mut self, bound: u32) -> u32 {
         ((self.next() as u64 * bound as u64) >> 32) as u32
     }
-    /// Below q: any word, and one in eight near an end.
+    /// Below q, uniform, as masks are.
     fn residue(&mut self, modulus: u32) -> u32 {
-        let any = if modulus == 0 { self.next() } else { self.below(modulus) };
-        match self.next() % 16 {
-            0 => modulus.wrapping_sub(1 + any % 2),
-            1 => any % 2,
-            _ => any,
-        }
+        if modulus == 0 { self.next() } else { self.below(modulus) }
     }
 }
 
@@ -240,6 +235,14 @@ fn compare_words(words: &mut Words) {
         let shape = (1 + words.below(12) as usize, 1 + words.below(40) as usize);
         let count = words.below(20) as usize;
         let mut case = Case::new(words, modulus, base_log, levels, shape, count);
+        // One word in eight at an end of its range.
+        for word in case.input.iter_mut().chain(&mut case.key) {
+            match words.next() % 16 {
+                0 => *word = modulus.wrapping_sub(1 + *word % 2),
+                1 => *word %= 2,
+                _ => {}
+            }
+        }
         case.time_ours();
         case.time_rust(if modulus == 0 { By::Wrap } else { By::Remainder });
         case.assert_same();
