@@ -1,0 +1,4 @@
+#[allow(dead_code)]
+mod common;
+
+pub use common::{BigUintSignedDecomposerIter, OnceBigUintSignedDecomposer};

@@ -1,0 +1,5 @@
+/// Named by lib.rs; no part of document 01.
+pub struct LweConfig;
+
+/// Named by lib.rs; no part of document 01.
+pub struct LweConfigError;

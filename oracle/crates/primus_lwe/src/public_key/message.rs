@@ -1,0 +1,1 @@
+//! Not supplied; no part of document 01.
