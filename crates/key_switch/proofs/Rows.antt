@@ -1,6 +1,6 @@
 -- One row: what an entry adds to it or takes from it.
 -- Assumes nothing.
-use mathlib.Core.Path.{_≡_, refl, sym, _∙_, ap}
+use mathlib.Core.Path.{_≡_, refl, sym, _∙_, ap, subst}
 use mathlib.Core.List.{List, map, zipWith}
 use Prim.Native.Nat.{ℕ, zero, suc, _+_, _*_, _-_, _/_, _%_, _^_, _<_, _≤_}
 use native.Mathlib.Omega.{arith}
@@ -106,6 +106,10 @@ less-none q grow d entry acc e = record { same = refl; word = λ c k. rw e (cong
   where
     law : (x y : ℕ) → pos x ≡ pos x -ℤ pos 0 *ℤ pos y
     law x y = simp diff (⊖-eq _ _ _ _ (omega arith))
+
+-- the digit by another name
+pub less-as : (q grow d e : ℕ) {entry acc acc′ : List ℕ} → d ≡ e → Less q grow e entry acc acc′ → Less q grow d entry acc acc′
+less-as q grow d e {entry} {acc} {acc′} f l = subst (λ x. Less q grow x entry acc acc′) (sym f) l
 
 -- ---- with wrap
 

@@ -19,18 +19,41 @@ fn less(x: u32, d: u32, y: u32) -> u32
     std::num::wrapping_sub_u32(x, wrapping_mul(d, y))
 }
 
-// out − digit × entry; one digit in B is 0.
-pub(crate) fn accumulate_entry(out: &mut [u32], entry: &[u32], digit: u32)
+// out − digit × entry
+fn take_multiple(out: &mut [u32], entry: &[u32], digit: u32)
     requires { ⌜ length (now out) ≡ length (now entry) ⌝ }
     ensures { λ _. ⌜ Less (2 ^ 32) (2 ^ 32 - 1) digit (now (entry .entry)) (now (out .entry)) (now (out .exit)) ⌝ }
 {
-    if digit == 0 {
-        return;
-    }
     let mut k = 0;
     while k < entry.len() {
         out[k] = less(out[k], digit, entry[k]);
         k += 1;
+    }
+}
+
+// The same; small digits are named, so that their multiples compile to shifts and sums.
+pub(crate) fn accumulate_entry(out: &mut [u32], entry: &[u32], digit: u32)
+    requires { ⌜ length (now out) ≡ length (now entry) ⌝ }
+    ensures { λ _. ⌜ Less (2 ^ 32) (2 ^ 32 - 1) digit (now (entry .entry)) (now (out .entry)) (now (out .exit)) ⌝ }
+{
+    match digit {
+        0 => {}
+        1 => take_multiple(out, entry, 1),
+        2 => take_multiple(out, entry, 2),
+        3 => take_multiple(out, entry, 3),
+        4 => take_multiple(out, entry, 4),
+        5 => take_multiple(out, entry, 5),
+        6 => take_multiple(out, entry, 6),
+        7 => take_multiple(out, entry, 7),
+        0xffff_ffff => take_multiple(out, entry, 0xffff_ffff),
+        0xffff_fffe => take_multiple(out, entry, 0xffff_fffe),
+        0xffff_fffd => take_multiple(out, entry, 0xffff_fffd),
+        0xffff_fffc => take_multiple(out, entry, 0xffff_fffc),
+        0xffff_fffb => take_multiple(out, entry, 0xffff_fffb),
+        0xffff_fffa => take_multiple(out, entry, 0xffff_fffa),
+        0xffff_fff9 => take_multiple(out, entry, 0xffff_fff9),
+        0xffff_fff8 => take_multiple(out, entry, 0xffff_fff8),
+        _ => take_multiple(out, entry, digit),
     }
 }
 
