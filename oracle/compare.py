@@ -224,7 +224,7 @@ def stored_lwe(rust, tally):
     data = (ROOT / "crates/lwe_vectors/data/lwe.bin").read_bytes()
     at = 0
     while data[at]:
-        kind, explicit, q, n, t, _, embedding, refusal, value, answer, *lengths = HEAD.unpack_from(data, at)
+        kind, explicit, q, n, t, _, embedding, refusal, value, answer, *lengths, _, _, _ = HEAD.unpack_from(data, at)
         at += HEAD.size
         lists = []
         for count in lengths + ([] if refusal else lengths[-1:]):

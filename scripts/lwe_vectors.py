@@ -4,11 +4,11 @@
     python3 scripts/lwe_vectors.py --check  compare with the stored file
 
 Writes crates/lwe_vectors/data/lwe.bin: records of one call each, without padding, numbers
-little-endian. A record is a head of 44 bytes and the words that its lengths announce:
+little-endian. A record is a head of 60 bytes and the words that its lengths announce:
 
     kind u8 (0 ends the file), modulus kind u8 (1 explicit), modulus u32, n u64, t u32, E u32,
     embedding u8 (1 Centered), refusal u8, value u32, answer u32,
-    lengths u16 of a, b, c (words), d, e (signed numbers) and of the buffer;
+    lengths u16 of a, b, c (words), d, e (signed numbers) and of the buffer, m u64, base log u32, levels u32;
     a, b, c, d, e, the buffer before the call, and, where it is not refused, the buffer after it
 
 The class of each call says what it takes from value, a .. e and the buffer. The answer is what an accepted
@@ -32,7 +32,7 @@ sys.dont_write_bytecode = True  # importing must leave no file in the repository
 from codec_vectors import Codec
 from scheme01 import Draw, write_or_check
 
-HEAD = struct.Struct("<BBIQIIBBII6H")
+HEAD = struct.Struct("<BBIQIIBBII6HQII")
 
 # Native, a power of two, small and large, and primes, the last two near 2^31 and 2^32.
 MODULI = [17, 16, 65536, 2**31 - 1, 2**32 - 5, None]
@@ -41,7 +41,7 @@ LOWEST, HIGHEST = -(2**31), 2**31 - 1
 WORD_MAX = 2**32 - 1
 LIMIT = 1048576
 # The words that the program has room for.
-ROOMS = [4096, 4096, 2048, 2048, 2048, 4096]
+ROOMS = [8192, 8192, 8192, 2048, 2048, 8192]
 
 
 @dataclass(frozen=True)
@@ -60,6 +60,10 @@ class Case:
     d: list = field(default_factory=list)
     e: list = field(default_factory=list)
     out: list = field(default_factory=list)
+    # of key switching only: switch_vectors.py
+    m: int = 0
+    base_log: int = 0
+    levels: int = 0
 
     @property
     def q(self):
@@ -830,7 +834,7 @@ class PublicMessage(PublicEncoded):
 
 def record(call, k):
     applying = call.applying(k)
-    assert not {2, 6} <= applying
+    assert call.kind > 26 or not {2, 6} <= applying
     refusal = min(applying, default=0)
     answer, after = (0, k.out) if refusal else call.result(k)
     assert len(after) == len(k.out) and all(0 <= w < 2**32 for w in after)
@@ -840,7 +844,7 @@ def record(call, k):
     assert all(len(words) <= room for words, room in zip(lists, ROOMS))
     head = HEAD.pack(
         call.kind, k.modulus is not None, k.modulus or 0, k.n, k.t, k.E, k.centered, refusal, k.value, answer,
-        *map(len, lists),
+        *map(len, lists), k.m, k.base_log, k.levels,
     )
     signed = [w % 2**32 for w in k.d + k.e]
     words = [*k.a, *k.b, *k.c, *signed, *k.out, *([] if refusal else after)]

@@ -9,7 +9,7 @@ use lib.IntN.{ℤ, pos, _+ℤ_, _-ℤ_, _*ℤ_}
 use lib.ListN.{length, getD, length-map}
 use Rattle.scheme.specs.Numbers.{residue, Cong}
 use Rattle.scheme.proofs.Integers.{_⊖_, ⊖-eq, diff}
-use Rattle.scheme.proofs.Residue.{cong-refl, cong-sym, cong-residue}
+use Rattle.scheme.proofs.Residue.{cong-refl, cong-of-eq, cong-sym, cong-residue}
 use Rattle.scheme.proofs.InPlace.{Filled, filled-word, length-zip, zip-at, map-at}
 use Rattle.key_switch.specs.Rows.{Roomy, Near, Spare, Less, Kept}
 
@@ -99,6 +99,13 @@ kept-reduced q bound limit acc acc′ h l e =
 
 pub kept-still : (q bound limit : ℕ) (acc : List ℕ) → bound ≤ limit → Kept q bound limit acc bound acc
 kept-still q bound limit acc h = record { same = refl; low = h; word = λ k m. cong-refl q (pos (getD acc k 0)); most = λ k m b. b }
+
+-- a digit of 0 takes nothing away
+pub less-none : (q grow d : ℕ) (entry acc : List ℕ) → d ≡ 0 → Less q grow d entry acc acc
+less-none q grow d entry acc e = record { same = refl; word = λ c k. rw e (cong-of-eq q (law (getD acc c 0) (getD entry c 0))); most = λ c k. omega arith }
+  where
+    law : (x y : ℕ) → pos x ≡ pos x -ℤ pos 0 *ℤ pos y
+    law x y = simp diff (⊖-eq _ _ _ _ (omega arith))
 
 -- ---- with wrap
 

@@ -19,11 +19,14 @@ fn less(x: u32, d: u32, y: u32) -> u32
     std::num::wrapping_sub_u32(x, wrapping_mul(d, y))
 }
 
-// out − digit × entry
+// out − digit × entry; one digit in B is 0.
 pub(crate) fn accumulate_entry(out: &mut [u32], entry: &[u32], digit: u32)
     requires { ⌜ length (now out) ≡ length (now entry) ⌝ }
     ensures { λ _. ⌜ Less (2 ^ 32) (2 ^ 32 - 1) digit (now (entry .entry)) (now (out .entry)) (now (out .exit)) ⌝ }
 {
+    if digit == 0 {
+        return;
+    }
     let mut k = 0;
     while k < entry.len() {
         out[k] = less(out[k], digit, entry[k]);

@@ -1,4 +1,5 @@
-// Compares the calls with data/lwe.bin, which scripts/lwe_vectors.py makes from document 01 and describes.
+// Compares the calls with data/lwe.bin and data/switch.bin, which scripts/lwe_vectors.py and scripts/switch_vectors.py make from
+// document 01 and describe.
 mod lattice;
 mod packed;
 mod parameters;
@@ -6,6 +7,7 @@ mod public;
 mod record;
 mod said;
 mod single;
+mod switch;
 
 use libc::STDOUT_FILENO;
 use primus_lattice::LweDimension;
@@ -47,6 +49,9 @@ fn call(
 }
 
 fn judged(h: Head, a: &[u32], b: &[u32], c: &[u32], d: &[i32], e: &[i32], out: &mut [u32]) -> Said {
+    if 26 < h.kind {
+        return switch::said(h, a, b, c, d, e, out);
+    }
     match LweDimension::try_new(h.n) {
         LweDimensionAnswer::Accepted(dimension) => call(h, dimension, a, b, c, d, e, out),
         LweDimensionAnswer::Refused(n) => said::refused(n),
@@ -133,8 +138,8 @@ struct Outcome {
 
 // One record, or kind 0 at the end; a file that breaks off counts as a record that differs.
 fn turn(fd: i32) -> Outcome {
-    let mut r = [0u8; 44];
-    if io::read_full(fd, &mut r) < 44 {
+    let mut r = [0u8; 60];
+    if io::read_full(fd, &mut r) < 60 {
         return Outcome {
             kind: 0,
             right: false,
@@ -165,15 +170,15 @@ fn differs(number: u32, kind: u32) {
     say(b"of kind ", kind);
 }
 
-fn count(counts: &mut [u32; 32], kind: u32) {
+fn count(counts: &mut [u32; 40], kind: u32) {
     let k = kind as usize;
-    if k < 32 {
+    if k < 40 {
         counts[k] = std::num::wrapping_add_u32(counts[k], 1);
     }
 }
 
 // Compares records up to the first that differs; the answer is whether all are equal.
-fn all(fd: i32, counts: &mut [u32; 32]) -> bool {
+fn all(fd: i32, counts: &mut [u32; 40]) -> bool {
     let mut number = 0;
     while number < u32::MAX {
         let t = turn(fd);
@@ -190,9 +195,9 @@ fn all(fd: i32, counts: &mut [u32; 32]) -> bool {
     false
 }
 
-fn print(counts: [u32; 32]) {
+fn print(counts: [u32; 40]) {
     let mut kind = 1;
-    while kind < 27 {
+    while kind < 33 {
         io::write_all(STDOUT_FILENO, b"kind ");
         io::print_decimal(STDOUT_FILENO, kind as u64);
         say(b": ", counts[kind]);
@@ -200,18 +205,24 @@ fn print(counts: [u32; 32]) {
     }
 }
 
-fn main() {
-    let path = b"lwe.bin";
+// Every record of a file is equal.
+fn file(path: &[u8], counts: &mut [u32; 40]) -> bool {
     let fd = os::open_read(path);
     if fd < 0 {
         os::fail(path);
-        return;
+        return false;
     }
-    let mut counts = [0u32; 32];
-    let equal = all(fd, &mut counts);
+    let equal = all(fd, counts);
     libc::close(fd);
+    equal
+}
+
+fn main() {
+    let mut counts = [0u32; 40];
+    let encryption = file(b"lwe.bin", &mut counts);
+    let switching = file(b"switch.bin", &mut counts);
     print(counts);
-    if equal {
+    if encryption && switching {
         io::write_all(STDOUT_FILENO, b"all equal\n");
     }
 }

@@ -12,6 +12,9 @@ pub(crate) struct Head {
     pub(crate) refusal: u32,
     pub(crate) value: u32,
     pub(crate) answer: u32,
+    pub(crate) m: usize,
+    pub(crate) base_log: u32,
+    pub(crate) levels: u32,
 }
 
 // How many words each operand has.
@@ -62,6 +65,9 @@ pub(crate) fn head_of(r: &[u8]) -> Head {
         refusal: little_endian::u8_at(r, 23),
         value: little_endian::u32_at(r, 24),
         answer: little_endian::u32_at(r, 28),
+        m: little_endian::u64_at(r, 44) as usize,
+        base_log: little_endian::u32_at(r, 52),
+        levels: little_endian::u32_at(r, 56),
     }
 }
 
@@ -118,11 +124,11 @@ pub(crate) fn places_of(l: Lengths, refusal: u32) -> Places {
 }
 
 // Words of the record from `from` on.
-pub(crate) fn words(bytes: &[u8; 65536], from: usize) -> [u32; 4096] {
-    let mut room = [0u32; 4096];
+pub(crate) fn words(bytes: &[u8; 65536], from: usize) -> [u32; 8192] {
+    let mut room = [0u32; 8192];
     let mut i = 0;
     let mut at = from;
-    while i < 4096 {
+    while i < 8192 {
         room[i] = little_endian::u32_at(bytes, at);
         at = std::num::wrapping_add_usize(at, 4);
         i += 1;

@@ -8,8 +8,8 @@ use Rattle.lwe_vectors.proofs.cut.Tie as tie
 pub cut-spec : {M : Type 1} → statement M
 cut-spec =
     tie.close
-    (tie.spec (λ c κs. tt) (λ c. search needs) (λ c κs. tt) (λ c. search needs) (λ c κs. tt) (λ c. search needs) (λ c κs. tt)
-    (λ c. search needs) (λ c κs. tt) (λ c. search needs) (λ c κs. tt) (λ c. search needs) (λ c. sym (length-take-le _ _ (omega arith)))
+    (tie.spec (λ c κs. tt) (λ c. tt) (λ c κs. tt) (λ c. tt) (λ c κs. tt) (λ c. tt) (λ c κs. tt) (λ c. tt) (λ c κs. tt) (λ c. tt)
+    (λ c κs. tt) (λ c. tt) (λ c. sym (length-take-le _ _ (omega arith))) (λ c. sym (length-take-le _ _ (omega arith)))
     (λ c. sym (length-take-le _ _ (omega arith))) (λ c. sym (length-take-le _ _ (omega arith)))
-    (λ c. sym (length-take-le _ _ (omega arith))) (λ c. sym (length-take-le _ _ (omega arith))) (λ c. omega arith)
-    (λ c. sym (length-take-le _ _ (omega arith))) (λ c κs. tt) (λ c. search needs) (λ c. tt))
+    (λ c. sym (length-take-le _ _ (omega arith))) (λ c. omega arith) (λ c. sym (length-take-le _ _ (omega arith))) (λ c κs. tt)
+    (λ c. search needs) (λ c. tt))

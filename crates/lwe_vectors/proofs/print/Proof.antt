@@ -5,10 +5,10 @@ use Rattle.lwe_vectors.proofs.print.Statement.{statement}
 use Rattle.lwe_vectors.proofs.print.Tie as tie
 
 abbrev Inv-loop : tie.InvT-loop
-Inv-loop counts kind₀ t4 t5 kind = (kind ≤ 27)
+Inv-loop counts kind₀ t4 t5 kind = (kind ≤ 33)
 
 abbrev μ-loop : tie.MeasureT-loop
-μ-loop counts kind₀ t4 t5 kind = 27 - kind
+μ-loop counts kind₀ t4 t5 kind = 33 - kind
 
 pub print-spec : {M : Type 1} → statement M
 print-spec =

@@ -4,10 +4,10 @@ use Rattle.lwe_vectors.proofs.record.words.Statement.{statement}
 use Rattle.lwe_vectors.proofs.record.words.Tie as tie
 
 abbrev Inv-loop : tie.InvT-loop
-Inv-loop bytes from room₀ i₀ at₀ room i at = (i ≤ 4096)
+Inv-loop bytes from room₀ i₀ at₀ room i at = (i ≤ 8192)
 
 abbrev μ-loop : tie.MeasureT-loop
-μ-loop bytes from room₀ i₀ at₀ room i at = 4096 - i
+μ-loop bytes from room₀ i₀ at₀ room i at = 8192 - i
 
 pub words-spec : {M : Type 1} → statement M
 words-spec =
