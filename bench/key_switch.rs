@@ -1,14 +1,15 @@
 //! `saigagalena_key_switch_batch` beside the same loops in Rust: words, time, stack.
 //! scripts/bench_key_switch.sh builds and runs this; it stands outside the gate.
 //!
-//! Both sides get the same buffers, warm, one after the other in turn; a time is the least of a side's
-//! rounds. Ours checks every length and every word of key and input; the Rust checks lengths only.
+//! Both sides get the same key and input, warm, one after the other in turn; a time is processor time, the
+//! least of a side's rounds. Ours checks every length and every word of key and input; the Rust lengths only.
 
 mod ported;
 
-use ported::{ApproxSignedBasis, Barrett, KeySwitchingKey, LowBits, Native, Remainder, WideBarrett};
+use ported::{
+    ApproxSignedBasis, Barrett, KeySwitchingKey, LowBits, Native, Remainder, WideBarrett,
+};
 use std::ffi::c_void;
-use std::time::Instant;
 
 unsafe extern "C" {
     fn saigagalena_key_switch_batch(
@@ -25,6 +26,7 @@ unsafe extern "C" {
         out_len: usize,
     ) -> u32;
 
+    fn clock_gettime(clock: i32, time: *mut [i64; 2]) -> i32;
     fn pthread_attr_init(attr: *mut ThreadAttributes) -> i32;
     fn pthread_attr_setstack(attr: *mut ThreadAttributes, lowest: *mut c_void, size: usize) -> i32;
     fn pthread_create(
@@ -41,6 +43,15 @@ const SHAPES: [(usize, usize); 3] = [(630, 630), (1024, 571), (2048, 2048)];
 const BASE_LOG: u32 = 4;
 const BATCH: usize = 64;
 const STACK_LIMIT: usize = 256 * 1024;
+
+/// Seconds of this thread on a processor: what others run counts for little.
+fn processor_seconds() -> f64 {
+    const THREAD: i32 = 3; // CLOCK_THREAD_CPUTIME_ID of Linux
+    let mut time = [0; 2];
+    // SAFETY: a timespec of x86-64 is two 64-bit numbers.
+    assert_eq!(unsafe { clock_gettime(THREAD, &mut time) }, 0);
+    time[0] as f64 + time[1] as f64 * 1e-9
+}
 
 /// How the Rust side reduces.
 #[derive(Clone, Copy, PartialEq)]
@@ -94,7 +105,11 @@ impl Words {
     }
     /// Below q, uniform, as masks are.
     fn residue(&mut self, modulus: u32) -> u32 {
-        if modulus == 0 { self.next() } else { self.below(modulus) }
+        if modulus == 0 {
+            self.next()
+        } else {
+            self.below(modulus)
+        }
     }
 }
 
@@ -121,7 +136,11 @@ impl Case {
         count: usize,
     ) -> Self {
         let level_count = ApproxSignedBasis::new(modulus, base_log, levels).level_count();
-        let mut fill = |len: usize| (0..len).map(|_| words.residue(modulus)).collect::<Vec<u32>>();
+        let mut fill = |len: usize| {
+            (0..len)
+                .map(|_| words.residue(modulus))
+                .collect::<Vec<u32>>()
+        };
         Self {
             modulus,
             base_log,
@@ -177,18 +196,18 @@ impl Case {
 
     fn time_ours(&mut self) -> f64 {
         self.ours.fill(0xaaaa_aaaa);
-        let start = Instant::now();
+        let start = processor_seconds();
         let refusal = self.run_ours();
-        let seconds = start.elapsed().as_secs_f64();
+        let seconds = processor_seconds() - start;
         assert_eq!(refusal, 0, "refused {}", self.describe());
         seconds
     }
 
     fn time_rust(&mut self, by: By) -> f64 {
         self.rust.fill(0x5555_5555);
-        let start = Instant::now();
+        let start = processor_seconds();
         self.run_rust(by);
-        start.elapsed().as_secs_f64()
+        processor_seconds() - start
     }
 
     fn describe(&self) -> String {
@@ -244,16 +263,28 @@ fn compare_words(words: &mut Words) {
             }
         }
         case.time_ours();
-        case.time_rust(if modulus == 0 { By::Wrap } else { By::Remainder });
+        case.time_rust(if modulus == 0 {
+            By::Wrap
+        } else {
+            By::Remainder
+        });
         case.assert_same();
     }
-    println!("{batches} random batches, native and explicit, every base log: the same words on both sides.\n");
+    println!(
+        "{batches} random batches, native and explicit, every base log: the same words on both sides.\n"
+    );
 }
 
 fn compare_times(words: &mut Words) {
-    println!("Batch of {BATCH}, base log {BASE_LOG}, levels left open. Least time of each side, the sides in turn.");
-    println!("Wanted: native at most 1.00 of the Rust, a general modulus at most 0.30 of the Rust with Barrett.\n");
-    println!("| modulus | n / m | levels | the Rust reduces by | ours, ms | Rust, ms | ours / Rust | by medians |");
+    println!(
+        "Batch of {BATCH}, base log {BASE_LOG}, levels left open. Least processor time of each side, the sides in turn."
+    );
+    println!(
+        "Wanted: native at most 1.00 of the Rust, a general modulus at most 0.30 of the Rust with Barrett.\n"
+    );
+    println!(
+        "| modulus | n / m | levels | the Rust reduces by | ours, ms | Rust, ms | ours / Rust | by medians |"
+    );
     println!("|---|---|---|---|---|---|---|---|");
     let moduli: [(u32, &[By]); 3] = [
         (0, &[By::Wrap]),
@@ -264,12 +295,15 @@ fn compare_times(words: &mut Words) {
         for (n, m) in SHAPES {
             let mut case = Case::new(words, modulus, BASE_LOG, 0, (n, m), BATCH);
             // Division on every word is slow: only where it costs little.
-            let sides: Vec<By> =
-                sides.iter().copied().filter(|&by| by != By::Remainder || n < 1000).collect();
+            let sides: Vec<By> = sides
+                .iter()
+                .copied()
+                .filter(|&by| by != By::Remainder || n < 1000)
+                .collect();
             case.time_ours();
             let mut ours = Vec::new();
             let mut rust = vec![Vec::new(); sides.len()];
-            for _ in 0..if n == 2048 { 5 } else { 9 } {
+            for _ in 0..if n == 2048 { 7 } else { 15 } {
                 for (by, times) in sides.iter().zip(&mut rust) {
                     ours.push(case.time_ours());
                     times.push(case.time_rust(*by));
@@ -293,29 +327,40 @@ fn compare_times(words: &mut Words) {
     println!();
 }
 
-/// Each quantity doubled twice, alone.
+/// The start, then each quantity doubled and doubled again, alone.
+#[rustfmt::skip]
+const GROWTH: [[usize; 4]; 9] = [
+    [1, 1, 1, 1],
+    [2, 1, 1, 1], [4, 1, 1, 1],
+    [1, 2, 1, 1], [1, 4, 1, 1],
+    [1, 1, 2, 1], [1, 1, 4, 1],
+    [1, 1, 1, 2], [1, 1, 1, 4],
+];
+
+/// The key is larger than a second-level cache from the start on.
 fn compare_growth(words: &mut Words) {
-    println!("Our time when one quantity is doubled, and doubled again; from 32 ciphertexts, n 256, m 256, and 2, 1, 1 levels.\n");
+    println!(
+        "Our time when one quantity is doubled, and doubled again; from 32 ciphertexts, n 500, m 499, and 2, 1, 1 levels.\n"
+    );
     println!("| modulus | ciphertexts | mask places n | output words m + 1 | levels |");
     println!("|---|---|---|---|---|");
     for (modulus, levels) in [(0, 2), (65_536, 1), (PRIME, 1)] {
-        print!("| {} |", modulus_name(modulus));
-        for quantity in 0..4 {
-            let mut cases: Vec<Case> = [1, 2, 4]
-                .map(|factor| {
-                    let by = |which| if quantity == which { factor } else { 1 };
-                    let shape = (256 * by(1), 257 * by(2) - 1);
-                    Case::new(words, modulus, BASE_LOG, levels * by(3), shape, 32 * by(0))
-                })
-                .into_iter()
-                .collect();
-            let mut times = vec![f64::INFINITY; cases.len()];
-            for _ in 0..15 {
-                for (case, time) in cases.iter_mut().zip(&mut times) {
-                    *time = time.min(case.time_ours());
-                }
+        let mut cases: Vec<Case> = GROWTH
+            .iter()
+            .map(|[rows, places, width, depth]| {
+                let shape = (500 * places, 500 * width - 1);
+                Case::new(words, modulus, BASE_LOG, levels * depth, shape, 32 * rows)
+            })
+            .collect();
+        let mut times = vec![f64::INFINITY; cases.len()];
+        for _ in 0..9 {
+            for (case, time) in cases.iter_mut().zip(&mut times) {
+                *time = time.min(case.time_ours());
             }
-            print!(" × {:.2}, × {:.2} |", times[1] / times[0], times[2] / times[1]);
+        }
+        print!("| {} |", modulus_name(modulus));
+        for pair in times[1..].chunks_exact(2) {
+            print!(" × {:.2}, × {:.2} |", pair[0] / times[0], pair[1] / pair[0]);
         }
         println!();
     }
@@ -366,7 +411,11 @@ fn measure_stack(words: &mut Words) {
         for (shape, count) in [((64, 2048), BATCH), ((64, 2048), 1), ((2048, 2048), 8)] {
             let mut case = Case::new(words, modulus, BASE_LOG, 0, shape, count);
             most = most.max(touched((&raw mut case).cast()) - idle);
-            case.time_rust(if modulus == 0 { By::Wrap } else { By::Remainder });
+            case.time_rust(if modulus == 0 {
+                By::Wrap
+            } else {
+                By::Remainder
+            });
             case.assert_same();
         }
     }

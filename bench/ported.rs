@@ -15,7 +15,9 @@ pub trait Ring: Copy {
         if a == 0 { 0 } else { self.q() - a }
     }
     fn add_slice_assign(self, out: &mut [u32], entry: &[u32]) {
-        out.iter_mut().zip(entry).for_each(|(o, &e)| *o = subtract_once(*o + e, self.q()));
+        out.iter_mut()
+            .zip(entry)
+            .for_each(|(o, &e)| *o = subtract_once(*o + e, self.q()));
     }
     fn sub_slice_assign(self, out: &mut [u32], entry: &[u32]) {
         out.iter_mut()
@@ -44,13 +46,19 @@ impl Ring for Native {
         a.wrapping_neg()
     }
     fn add_slice_assign(self, out: &mut [u32], entry: &[u32]) {
-        out.iter_mut().zip(entry).for_each(|(o, &e)| *o = o.wrapping_add(e));
+        out.iter_mut()
+            .zip(entry)
+            .for_each(|(o, &e)| *o = o.wrapping_add(e));
     }
     fn sub_slice_assign(self, out: &mut [u32], entry: &[u32]) {
-        out.iter_mut().zip(entry).for_each(|(o, &e)| *o = o.wrapping_sub(e));
+        out.iter_mut()
+            .zip(entry)
+            .for_each(|(o, &e)| *o = o.wrapping_sub(e));
     }
     fn add_mul_scalar_slice_assign(self, out: &mut [u32], entry: &[u32], scalar: u32) {
-        out.iter_mut().zip(entry).for_each(|(o, &e)| *o = o.wrapping_add(e.wrapping_mul(scalar)));
+        out.iter_mut()
+            .zip(entry)
+            .for_each(|(o, &e)| *o = o.wrapping_add(e.wrapping_mul(scalar)));
     }
 }
 
@@ -75,10 +83,14 @@ impl Ring for LowBits {
         a.wrapping_neg() & self.mask
     }
     fn add_slice_assign(self, out: &mut [u32], entry: &[u32]) {
-        out.iter_mut().zip(entry).for_each(|(o, &e)| *o = o.wrapping_add(e) & self.mask);
+        out.iter_mut()
+            .zip(entry)
+            .for_each(|(o, &e)| *o = o.wrapping_add(e) & self.mask);
     }
     fn sub_slice_assign(self, out: &mut [u32], entry: &[u32]) {
-        out.iter_mut().zip(entry).for_each(|(o, &e)| *o = o.wrapping_sub(e) & self.mask);
+        out.iter_mut()
+            .zip(entry)
+            .for_each(|(o, &e)| *o = o.wrapping_sub(e) & self.mask);
     }
     fn add_mul_scalar_slice_assign(self, out: &mut [u32], entry: &[u32], scalar: u32) {
         out.iter_mut()
@@ -97,7 +109,10 @@ pub struct Barrett {
 impl Barrett {
     pub fn new(q: u32) -> Self {
         let ratio = WideBarrett::new(q).ratio;
-        Self { q, ratio: [ratio as u32, (ratio >> 32) as u32] }
+        Self {
+            q,
+            ratio: [ratio as u32, (ratio >> 32) as u32],
+        }
     }
     #[inline]
     fn reduce(self, low: u32, high: u32) -> u32 {
@@ -136,12 +151,18 @@ pub struct WideBarrett {
 impl WideBarrett {
     pub fn new(q: u32) -> Self {
         assert!((2..=1 << 31).contains(&q));
-        Self { q, ratio: ((1u128 << 64) / q as u128) as u64 }
+        Self {
+            q,
+            ratio: ((1u128 << 64) / q as u128) as u64,
+        }
     }
     #[inline]
     fn reduce(self, x: u64) -> u32 {
         let quotient = ((x as u128 * self.ratio as u128) >> 64) as u64;
-        subtract_once(x.wrapping_sub(quotient.wrapping_mul(self.q as u64)) as u32, self.q)
+        subtract_once(
+            x.wrapping_sub(quotient.wrapping_mul(self.q as u64)) as u32,
+            self.q,
+        )
     }
 }
 
@@ -174,7 +195,9 @@ impl Ring for Remainder {
         self.q
     }
     fn add_slice_assign(self, out: &mut [u32], entry: &[u32]) {
-        out.iter_mut().zip(entry).for_each(|(o, &e)| *o = self.reduce(*o as u64 + e as u64));
+        out.iter_mut()
+            .zip(entry)
+            .for_each(|(o, &e)| *o = self.reduce(*o as u64 + e as u64));
     }
     fn sub_slice_assign(self, out: &mut [u32], entry: &[u32]) {
         out.iter_mut()
@@ -259,7 +282,11 @@ impl ApproxSignedBasis {
             let threshold = wrap_threshold(log_basis, level_count, drop_bits);
             let add = (u32::MAX >> (32 - value_bits)) - (modulus - 1);
             match init_carry_mask {
-                Some(mask) => ValueCarryInitMode::AdjustAndCarry { threshold, add, mask },
+                Some(mask) => ValueCarryInitMode::AdjustAndCarry {
+                    threshold,
+                    add,
+                    mask,
+                },
                 None => ValueCarryInitMode::AdjustOnly { threshold, add },
             }
         };
@@ -290,25 +317,42 @@ impl ApproxSignedBasis {
 
     #[inline]
     fn decomposer_iter(&self) -> impl Iterator<Item = OnceSignedDecomposer> + '_ {
-        let (carry_mask, basis_minus_one, modulus_minus_basis) =
-            (self.carry_mask, self.basis_minus_one, self.modulus_minus_basis);
-        self.value_masks.iter().map(move |&value_mask| OnceSignedDecomposer {
-            value_mask,
-            carry_mask,
-            basis_minus_one,
-            modulus_minus_basis,
-        })
+        let (carry_mask, basis_minus_one, modulus_minus_basis) = (
+            self.carry_mask,
+            self.basis_minus_one,
+            self.modulus_minus_basis,
+        );
+        self.value_masks
+            .iter()
+            .map(move |&value_mask| OnceSignedDecomposer {
+                value_mask,
+                carry_mask,
+                basis_minus_one,
+                modulus_minus_basis,
+            })
     }
 
     #[inline]
     fn init_value_carry(&self, value: u32) -> (u32, bool) {
         match self.value_carry_init_mode {
-            ValueCarryInitMode::AdjustAndCarry { threshold, add, mask } => {
-                let adjust = if value >= threshold { value + add } else { value };
+            ValueCarryInitMode::AdjustAndCarry {
+                threshold,
+                add,
+                mask,
+            } => {
+                let adjust = if value >= threshold {
+                    value + add
+                } else {
+                    value
+                };
                 (adjust, adjust & mask != 0)
             }
             ValueCarryInitMode::AdjustOnly { threshold, add } => {
-                let adjust = if value >= threshold { value + add } else { value };
+                let adjust = if value >= threshold {
+                    value + add
+                } else {
+                    value
+                };
                 (adjust, false)
             }
             ValueCarryInitMode::CarryOnly { mask } => (value, value & mask != 0),
@@ -323,7 +367,11 @@ fn wrap_threshold(log_basis: u32, levels: usize, drop_bits: u32) -> u32 {
     for _ in 0..levels {
         positive_limit = (positive_limit << log_basis) | positive_digit;
     }
-    let rounding_offset = if drop_bits == 0 { 1 } else { 1u32 << (drop_bits - 1) };
+    let rounding_offset = if drop_bits == 0 {
+        1
+    } else {
+        1u32 << (drop_bits - 1)
+    };
     (positive_limit << drop_bits) + rounding_offset
 }
 
@@ -347,7 +395,10 @@ impl KeySwitchingKey<'_> {
         modulus: R,
     ) {
         let input_len = self.input_dimension + 1;
-        assert!(input.len().is_multiple_of(input_len), "incomplete LWE batch ciphertext");
+        assert!(
+            input.len().is_multiple_of(input_len),
+            "incomplete LWE batch ciphertext"
+        );
         let count = input.len() / input_len;
         assert_eq!(
             Some(output.len()),

@@ -27,8 +27,9 @@ sys.path.insert(0, str(ROOT / "scripts"))
 
 from codec_vectors import SLICE, VALUE
 from digits_vectors import BASIS, SHORT_WORD, WORD
-from lwe_vectors import HEAD, Pick, encrypted, rows_of
+from lwe_vectors import HEAD, Pick
 from scheme01 import Basis, Draw
+from switch_vectors import OPEN, generated, switched
 
 ANSWERED, REFUSED, PANICKED, MALFORMED = range(4)
 SAID = {ANSWERED: "answered", REFUSED: "refused", PANICKED: "panicked"}
@@ -171,18 +172,18 @@ def stored_codec(rust, tally, proved):
                 compare("decoded slices", number, after, 11, modulus, t, inner)
 
 
-def rust_answer(rust, kind, modulus, n, t, embedding, value, a, b, c, d, e, say):
-    """What the Rust makes of a record of lwe.bin; None where nothing supplied computes it."""
+def rust_answer(say, kind, modulus, n, t, embedding, value, a, b, c, d, e):
+    """(status, words) of the Rust for an accepted record of lwe.bin, of a kind that NAMES lists."""
     secret = [1, d] if kind in (9, 11, 13, 15, 24) else [0, a]
     if kind == 7:
         return say(34, modulus, n, value, b)
     if kind in (8, 9):
-        return say(20, modulus, *secret, b, e[0], value) if len(e) == 1 else None
+        return say(20, modulus, *secret, b, e[0], value)
     if kind in (10, 11):
         return say(23, modulus, *secret, b)
     if kind == 12:
         return say(21, modulus, t, embedding, a, b, e, [value])
-    if kind == 13 and len(e) == 1:
+    if kind == 13:
         status, word = say(10, modulus, t, embedding, [value])
         return (status, word) if status else say(20, modulus, *secret, b, e[0], *word)
     if kind == 14:
@@ -206,12 +207,12 @@ def rust_answer(rust, kind, modulus, n, t, embedding, value, a, b, c, d, e, say)
         return say(40, modulus, *secret, b, e)
     if kind == 25:
         return say(41, modulus, n, a, e, d, value)
-    if kind == 26:
-        status, word = say(10, modulus, t, embedding, [value])
-        return (status, word) if status else say(41, modulus, n, a, e, d, *word)
-    return None
+    assert kind == 26
+    status, word = say(10, modulus, t, embedding, [value])
+    return (status, word) if status else say(41, modulus, n, a, e, d, *word)
 
 
+# Left out: what 01 adds (1 to 6) and batches of phases (18), whose file was not supplied.
 NAMES = {
     7: "samples of packed ciphertexts", 8: "encryptions", 9: "encryptions, signed key", 10: "phases", 11: "phases, signed key",
     12: "messages", 13: "messages, signed key", 14: "openings", 15: "openings, signed key", 16: "packed encryptions",
@@ -220,24 +221,46 @@ NAMES = {
 }
 
 
-def stored_lwe(rust, tally):
-    data = (ROOT / "crates/lwe_vectors/data/lwe.bin").read_bytes()
+def stored_calls(name):
+    """The accepted records of a file of lwe_vectors.py's form: head, operands a .. e, the buffer after the call."""
+    data = (ROOT / "crates/lwe_vectors/data" / name).read_bytes()
     at = 0
     while data[at]:
-        kind, explicit, q, n, t, _, embedding, refusal, value, answer, *lengths, _, _, _ = HEAD.unpack_from(data, at)
+        head = HEAD.unpack_from(data, at)
         at += HEAD.size
+        refusal, lengths = head[7], list(head[10:16])
         lists = []
         for count in lengths + ([] if refusal else lengths[-1:]):
             lists.append(list(struct.unpack_from(f"<{count}I", data, at)))
             at += 4 * count
-        modulus = modulus_of(explicit, q)
-        a, b, c, d, e, _, *after = lists
-        if refusal or kind not in NAMES:
+        if not refusal:
+            yield head, lists[:5], lists[6]
+
+
+def stored_lwe(rust, tally):
+    for head, operands, after in stored_calls("lwe.bin"):
+        kind, explicit, q, n, t, _, embedding, _, value, answer = head[:10]
+        if kind in NAMES:
+            expected = after or ([answer] if kind in (10, 11, 14, 15) else [])
+            got = rust_answer(rust.say, kind, modulus_of(explicit, q), n, t, embedding, value, *operands)
+            tally.same(NAMES[kind], (head, operands), (ANSWERED, expected), got)
+
+
+def stored_switches(rust, tally, proved):
+    for head, (a, b, c, d, e), after in stored_calls("switch.bin"):
+        kind, explicit, q, n = head[:4]
+        m, log, levels = head[16:]
+        basis = (modulus_of(explicit, q), log, 0 if levels == OPEN else levels)
+        if kind in (28, 29):
+            name, record = "stored switching keys", (50, *basis, kind - 28, d if kind == 29 else a, c, b, e)
+        elif kind in (30, 31):
+            name, record = "stored single switches" if kind == 30 else "stored batches", (kind + 21, *basis, n, m, a, b)
+        else:
             continue
-        expected = after[0] if after[0] or kind not in (10, 11, 14, 15) else [answer]
-        status, got = rust_answer(rust, kind, modulus, n, t, embedding, value, a, b, c, d, e, rust.say)
-        record = (kind, modulus, n, t, embedding, value, lists)
-        tally.same(NAMES[kind], record, (ANSWERED, expected), (status, got))
+        got = rust.words(*record)
+        tally.same(name, record, after, got)
+        if proved and kind == 31:
+            tally.same("stored batches, the proved library and the Rust", record, proved.words(*record), got)
 
 
 def every_word(rust, tally, most):
@@ -249,26 +272,6 @@ def every_word(rust, tally, most):
                 stored = [basis.stored(basis.parts(a).digits) for a in range(q)]
                 runs = [digits[j] for j in range(levels) for digits in stored]
                 tally.same("bases of small moduli, every word", (q, log, levels), runs, rust.words(2, q, log, levels, list(range(q))))
-
-
-def switched(basis, n, m, key, x):
-    """(0, b) minus the sum of digit(i, j) x entry(i, j)."""
-    out = [0] * m + [x[n]]
-    entries = rows_of(key, m + 1)
-    for i in range(n):
-        for j, digit in enumerate(basis.parts(x[i]).digits):
-            out = [o - digit * w for o, w in zip(out, entries[i * basis.L + j])]
-    return [o % basis.q for o in out]
-
-
-def entries_of(basis, n, m, s, target, masks, errors):
-    """Entry (i, j) encrypts s_i x weight j under the output key."""
-    key = []
-    for i in range(n):
-        for j in range(basis.L):
-            at = i * basis.L + j
-            key += encrypted(basis.q, masks[at * m : (at + 1) * m], target, errors[at], s[i] * basis.weights[j])
-    return key
 
 
 def random_basis(draw):
@@ -293,7 +296,7 @@ def switches(rust, tally, seed, rounds, proved):
         s, target = pick.secret(signed), pick.words(m)
         masks, errors = pick.words(n * basis.L * m), pick.errors(n * basis.L)
         record = (modulus, log, levels)
-        key = entries_of(basis, n, m, s, target, masks, errors)
+        key = generated(basis, n, s, target, errors, masks)
         got = rust.words(50, *record, int(signed), s, target, masks, errors)
         tally.same("switching keys", (*record, s, target, masks, errors), key, got)
         if draw.below(2):
@@ -330,6 +333,7 @@ def main():
     stored_digits(rust, tally)
     stored_codec(rust, tally, proved)
     stored_lwe(rust, tally)
+    stored_switches(rust, tally, proved)
     every_word(rust, tally, 200)
     switches(rust, tally, seed, 2000, proved)
     if proved:

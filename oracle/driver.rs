@@ -11,8 +11,8 @@ use primus_encoding::{PlaintextEmbedding, RoundedCodec};
 use primus_lattice::LweDimension;
 use primus_lattice::lwe::{Lwe, MultiMsgLwe};
 use primus_lwe::{
-    LweEncryptionParameters, LweKeySwitchingKey, LweKeySwitchingParameters, LweParameters, LwePublicKey,
-    LweSecretKey, LweSecretKeyRef, SecretKeyDistr,
+    LweEncryptionParameters, LweKeySwitchingKey, LweKeySwitchingParameters, LweParameters,
+    LwePublicKey, LweSecretKey, LweSecretKeyRef, SecretKeyDistr,
 };
 use primus_modulus::{NativeModulus, UintModulus};
 use primus_reduce::RingContext;
@@ -42,7 +42,11 @@ impl<'a> Operands<'a> {
         Ok(run)
     }
     fn end(&self) -> Result<(), Trouble> {
-        if self.0.is_empty() { Ok(()) } else { Err(Trouble::Malformed) }
+        if self.0.is_empty() {
+            Ok(())
+        } else {
+            Err(Trouble::Malformed)
+        }
     }
     fn embedding(&mut self) -> Result<PlaintextEmbedding, Trouble> {
         match self.word()? {
@@ -58,7 +62,11 @@ impl<'a> Operands<'a> {
             _ => return Err(Trouble::Malformed),
         };
         let words = self.run()?;
-        Ok(Secret { signed, words, numbers: words.iter().map(|&w| w as i32).collect() })
+        Ok(Secret {
+            signed,
+            words,
+            numbers: words.iter().map(|&w| w as i32).collect(),
+        })
     }
 }
 
@@ -90,7 +98,10 @@ struct Lent {
 impl Lent {
     fn masks(words: &[u32]) -> Self {
         let words: Vec<u64> = words.iter().map(|&w| w as u64).collect();
-        Self { words: words.into_iter(), ..Self::default() }
+        Self {
+            words: words.into_iter(),
+            ..Self::default()
+        }
     }
     fn errors(mut self, errors: &[u32]) -> Self {
         let errors: Vec<i64> = errors.iter().map(|&e| e as i32 as i64).collect();
@@ -110,7 +121,11 @@ impl Lent {
             words.extend(row[..len - 1].iter().map(|&w| w as u64));
             errors.push(row[len - 1] as i64);
         }
-        Self { words: words.into_iter(), errors: errors.into_iter(), ..Self::default() }
+        Self {
+            words: words.into_iter(),
+            errors: errors.into_iter(),
+            ..Self::default()
+        }
     }
     fn end(self) -> Result<(), Trouble> {
         if self.words.len() + self.errors.len() + self.coefficients.len() == 0 {
@@ -154,13 +169,31 @@ fn dimension(n: usize) -> Result<LweDimension, Trouble> {
     LweDimension::try_new(n).map_err(|_| Trouble::Refused(6))
 }
 
-fn encryption<M: RingContext<u32>>(n: usize, modulus: M) -> Result<LweEncryptionParameters<u32, M>, Trouble> {
-    Ok(LweEncryptionParameters::new(dimension(n)?, modulus, SecretKeyDistr::Lent, 1.0))
+fn encryption<M: RingContext<u32>>(
+    n: usize,
+    modulus: M,
+) -> Result<LweEncryptionParameters<u32, M>, Trouble> {
+    Ok(LweEncryptionParameters::new(
+        dimension(n)?,
+        modulus,
+        SecretKeyDistr::Lent,
+        1.0,
+    ))
 }
 
-fn parameters<M: RingContext<u32>>(n: usize, t: u32, modulus: M) -> Result<LweParameters<u32, M>, Trouble> {
+fn parameters<M: RingContext<u32>>(
+    n: usize,
+    t: u32,
+    modulus: M,
+) -> Result<LweParameters<u32, M>, Trouble> {
     codec(t, modulus)?;
-    Ok(LweParameters::new(dimension(n)?, t, modulus, SecretKeyDistr::Lent, 1.0))
+    Ok(LweParameters::new(
+        dimension(n)?,
+        t,
+        modulus,
+        SecretKeyDistr::Lent,
+        1.0,
+    ))
 }
 
 fn codec<M: RingContext<u32>>(t: u32, modulus: M) -> Result<RoundedCodec<u32, M>, Trouble> {
@@ -205,8 +238,11 @@ fn answer<M: RingContext<u32>>(call: u32, modulus: M, operands: &mut Operands) -
         1 => {
             let basis = basis(modulus.explicit_value(), operands)?;
             operands.end()?;
-            let mut out =
-                vec![basis.level_count().get() as u32, basis.drop_bits(), basis.approximate_error_bound()];
+            let mut out = vec![
+                basis.level_count().get() as u32,
+                basis.drop_bits(),
+                basis.approximate_error_bound(),
+            ];
             out.extend(basis.scalar_iter());
             Ok(out)
         }
@@ -273,7 +309,9 @@ fn answer<M: RingContext<u32>>(call: u32, modulus: M, operands: &mut Operands) -
             let plaintext = operands.word()?;
             operands.end()?;
             let mut out = Lwe::new(vec![0xaaaa_aaaa; secret.words.len() + 1]);
-            secret.view().encrypt_encoded_to(plaintext, &mut out, modulus, uniform, &noise, &mut lent);
+            secret
+                .view()
+                .encrypt_encoded_to(plaintext, &mut out, modulus, uniform, &noise, &mut lent);
             lent.end()?;
             Ok(out.0)
         }
@@ -289,9 +327,17 @@ fn answer<M: RingContext<u32>>(call: u32, modulus: M, operands: &mut Operands) -
             let key = owned(secret, modulus);
             let mut out = vec![0xaaaa_aaaa; messages.len() * (secret.len() + 1)];
             if call == 21 {
-                let [message] = messages else { return Err(Trouble::Malformed) };
+                let [message] = messages else {
+                    return Err(Trouble::Malformed);
+                };
                 let mut ciphertext = Lwe::new(out.as_mut_slice());
-                key.encrypt_message_to(*message, &mut ciphertext, &parameters, embedding, &mut lent);
+                key.encrypt_message_to(
+                    *message,
+                    &mut ciphertext,
+                    &parameters,
+                    embedding,
+                    &mut lent,
+                );
             } else {
                 key.encrypt_message_batch_to(messages, &mut out, &parameters, embedding, &mut lent);
             }
@@ -325,7 +371,8 @@ fn answer<M: RingContext<u32>>(call: u32, modulus: M, operands: &mut Operands) -
             let plaintexts = operands.run()?;
             operands.end()?;
             let parameters = encryption(secret.len(), modulus)?;
-            let out = owned(secret, modulus).encrypt_encoded_packed(plaintexts, &parameters, &mut lent);
+            let out =
+                owned(secret, modulus).encrypt_encoded_packed(plaintexts, &parameters, &mut lent);
             lent.end()?;
             Ok(out.0)
         }
@@ -337,7 +384,12 @@ fn answer<M: RingContext<u32>>(call: u32, modulus: M, operands: &mut Operands) -
             let messages = operands.run()?;
             operands.end()?;
             let parameters = parameters(secret.len(), t, modulus)?;
-            let out = owned(secret, modulus).encrypt_message_packed(messages, &parameters, embedding, &mut lent);
+            let out = owned(secret, modulus).encrypt_message_packed(
+                messages,
+                &parameters,
+                embedding,
+                &mut lent,
+            );
             lent.end()?;
             Ok(out.0)
         }
@@ -376,13 +428,16 @@ fn answer<M: RingContext<u32>>(call: u32, modulus: M, operands: &mut Operands) -
         41 => {
             let n = operands.word()? as usize;
             let words = operands.run()?;
-            let mut lent = Lent::default().errors(operands.run()?).coefficients(operands.run()?);
+            let mut lent = Lent::default()
+                .errors(operands.run()?)
+                .coefficients(operands.run()?);
             let plaintext = operands.word()?;
             operands.end()?;
             let mut rows = Lent::rows(words, n + 1);
             let zero = vec![0; n];
             let secret = LweSecretKeyRef::Encoded(&zero);
-            let key = LwePublicKey::generate(secret, dimension(n)?, modulus, uniform, &noise, &mut rows);
+            let key =
+                LwePublicKey::generate(secret, dimension(n)?, modulus, uniform, &noise, &mut rows);
             rows.end()?;
             assert_eq!(key.as_slice(), words, "the key was not loaded");
             let mut out = Lwe::new(vec![0xaaaa_aaaa; n + 1]);
@@ -397,9 +452,14 @@ fn answer<M: RingContext<u32>>(call: u32, modulus: M, operands: &mut Operands) -
             let output = operands.run()?;
             let mut lent = Lent::masks(operands.run()?).errors(operands.run()?);
             operands.end()?;
-            let parameters = LweKeySwitchingParameters::new(encryption(output.len(), modulus)?, basis);
-            let key =
-                LweKeySwitchingKey::generate(input.view(), &owned(output, modulus), &parameters, &mut lent);
+            let parameters =
+                LweKeySwitchingParameters::new(encryption(output.len(), modulus)?, basis);
+            let key = LweKeySwitchingKey::generate(
+                input.view(),
+                &owned(output, modulus),
+                &parameters,
+                &mut lent,
+            );
             lent.end()?;
             Ok(key.as_slice().to_vec())
         }
@@ -450,8 +510,12 @@ fn main() -> io::Result<()> {
         };
         let mut bytes = vec![0; count as usize * 4];
         input.read_exact(&mut bytes)?;
-        let words: Vec<u32> =
-            bytes.as_chunks::<4>().0.iter().map(|&bytes| u32::from_le_bytes(bytes)).collect();
+        let words: Vec<u32> = bytes
+            .as_chunks::<4>()
+            .0
+            .iter()
+            .map(|&bytes| u32::from_le_bytes(bytes))
+            .collect();
         let (status, words) = match catch_unwind(AssertUnwindSafe(|| record(&words))) {
             Ok(Ok(words)) => (0, words),
             Ok(Err(Trouble::Refused(number))) => (1, vec![number]),

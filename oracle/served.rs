@@ -64,7 +64,11 @@ fn record(words: &[u32]) -> Option<(u32, Vec<u32>)> {
                     out.len(),
                 )
             };
-            let answer = if refusal == 0 { (0, out) } else { (1, vec![refusal]) };
+            let answer = if refusal == 0 {
+                (0, out)
+            } else {
+                (1, vec![refusal])
+            };
             operands.is_empty().then_some(answer)
         }
         _ => None,
@@ -87,8 +91,12 @@ fn main() -> io::Result<()> {
         };
         let mut bytes = vec![0; count as usize * 4];
         input.read_exact(&mut bytes)?;
-        let words: Vec<u32> =
-            bytes.as_chunks::<4>().0.iter().map(|&bytes| u32::from_le_bytes(bytes)).collect();
+        let words: Vec<u32> = bytes
+            .as_chunks::<4>()
+            .0
+            .iter()
+            .map(|&bytes| u32::from_le_bytes(bytes))
+            .collect();
         let (status, words) = record(&words).unwrap_or((3, vec![]));
         output.write_all(&(words.len() as u32 + 1).to_le_bytes())?;
         output.write_all(&status.to_le_bytes())?;

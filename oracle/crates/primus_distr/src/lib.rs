@@ -25,7 +25,10 @@ pub struct DiscreteGaussian<T> {
 
 impl<T: FheUint> DiscreteGaussian<T> {
     pub fn new(standard_deviation: f64, modulus_minus_one: T) -> Result<Self, GaussianError> {
-        Ok(Self { standard_deviation, modulus_minus_one })
+        Ok(Self {
+            standard_deviation,
+            modulus_minus_one,
+        })
     }
     pub fn standard_deviation(&self) -> f64 {
         self.standard_deviation
@@ -46,7 +49,11 @@ impl<T: FheUint> Distribution<T> for DiscreteGaussian<T> {
 }
 
 /// Lent coefficients of −1, 0 and 1.
-pub fn sample_sparse_ternary_values_to<R: Rng + ?Sized>(values: &mut [i8], minus_one: i8, rng: &mut R) {
+pub fn sample_sparse_ternary_values_to<R: Rng + ?Sized>(
+    values: &mut [i8],
+    minus_one: i8,
+    rng: &mut R,
+) {
     values.iter_mut().for_each(|v| {
         *v = match rng.lent_coefficient() {
             -1 => minus_one,
@@ -83,7 +90,10 @@ pub struct SecretKeySampler<T> {
 
 impl<T: FheUint> SecretKeySampler<T> {
     pub fn try_new(distr: SecretKeyDistr) -> Result<Self, SecretKeySamplerError> {
-        Ok(Self { distr, kind: core::marker::PhantomData })
+        Ok(Self {
+            distr,
+            kind: core::marker::PhantomData,
+        })
     }
     pub fn validate_length(&self, _length: usize) -> Result<(), SecretKeySamplerError> {
         Ok(())
@@ -94,7 +104,13 @@ impl<T: FheUint> SecretKeySampler<T> {
     pub fn distr(&self) -> SecretKeyDistr {
         self.distr
     }
-    pub fn sample_encoded_to<R: Rng + ?Sized>(&self, out: &mut [T], _modulus_minus_one: T, rng: &mut R) {
-        out.iter_mut().for_each(|o| *o = T::from_lent(rng.lent_word()));
+    pub fn sample_encoded_to<R: Rng + ?Sized>(
+        &self,
+        out: &mut [T],
+        _modulus_minus_one: T,
+        rng: &mut R,
+    ) {
+        out.iter_mut()
+            .for_each(|o| *o = T::from_lent(rng.lent_word()));
     }
 }

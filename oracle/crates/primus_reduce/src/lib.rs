@@ -140,25 +140,33 @@ pub trait RingContext<T: FheUint>:
     }
     fn reduce_dot_product(self, a: &[T], b: &[T]) -> T {
         assert_eq!(a.len(), b.len(), "dot product length mismatch");
-        a.iter().zip(b).fold(T::ZERO, |sum, (&x, &y)| self.reduce_add(sum, self.reduce_mul(x, y)))
+        a.iter().zip(b).fold(T::ZERO, |sum, (&x, &y)| {
+            self.reduce_add(sum, self.reduce_mul(x, y))
+        })
     }
     fn reduce_dot_product_signed(self, a: &[T], b: &[T::SignedInteger]) -> T {
         assert_eq!(a.len(), b.len(), "dot product length mismatch");
-        a.iter()
-            .zip(b)
-            .fold(T::ZERO, |sum, (&x, &c)| self.reduce_add(sum, self.reduce_mul(x, self.encode_signed(c))))
+        a.iter().zip(b).fold(T::ZERO, |sum, (&x, &c)| {
+            self.reduce_add(sum, self.reduce_mul(x, self.encode_signed(c)))
+        })
     }
     fn reduce_add_slice_assign(self, a: &mut [T], b: &[T]) {
         assert_eq!(a.len(), b.len(), "slice length mismatch");
-        a.iter_mut().zip(b).for_each(|(x, &y)| *x = self.reduce_add(*x, y));
+        a.iter_mut()
+            .zip(b)
+            .for_each(|(x, &y)| *x = self.reduce_add(*x, y));
     }
     fn reduce_sub_slice_assign(self, a: &mut [T], b: &[T]) {
         assert_eq!(a.len(), b.len(), "slice length mismatch");
-        a.iter_mut().zip(b).for_each(|(x, &y)| *x = self.reduce_sub(*x, y));
+        a.iter_mut()
+            .zip(b)
+            .for_each(|(x, &y)| *x = self.reduce_sub(*x, y));
     }
     fn reduce_add_mul_scalar_slice_assign(self, a: &mut [T], b: &[T], scalar: T) {
         assert_eq!(a.len(), b.len(), "slice length mismatch");
-        a.iter_mut().zip(b).for_each(|(x, &y)| *x = self.reduce_add(*x, self.reduce_mul(y, scalar)));
+        a.iter_mut()
+            .zip(b)
+            .for_each(|(x, &y)| *x = self.reduce_add(*x, self.reduce_mul(y, scalar)));
     }
 }
 
@@ -186,8 +194,15 @@ impl<T: FheUint> ModulusSwitch<T> {
 }
 
 pub trait PrepareModulusSwitch: Modulus {
-    fn prepare_switch_to<N: Modulus<ValueT = Self::ValueT>>(self, to: N) -> ModulusSwitch<Self::ValueT> {
-        ModulusSwitch { from: self.size(), to: to.size(), kind: core::marker::PhantomData }
+    fn prepare_switch_to<N: Modulus<ValueT = Self::ValueT>>(
+        self,
+        to: N,
+    ) -> ModulusSwitch<Self::ValueT> {
+        ModulusSwitch {
+            from: self.size(),
+            to: to.size(),
+            kind: core::marker::PhantomData,
+        }
     }
 }
 

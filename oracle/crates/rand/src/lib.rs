@@ -53,7 +53,11 @@ pub mod distr {
         where
             Self: Sized,
         {
-            Samples { distribution: self, rng, kind: core::marker::PhantomData }
+            Samples {
+                distribution: self,
+                rng,
+                kind: core::marker::PhantomData,
+            }
         }
     }
 

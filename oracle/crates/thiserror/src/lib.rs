@@ -21,7 +21,10 @@ pub fn derive_error(item: TokenStream) -> TokenStream {
          impl ::std::error::Error for {name} {{}}"
     );
     if tokens[kind].to_string() == "enum" {
-        let body = tokens.iter().find_map(|t| group(t, Delimiter::Brace)).expect("a body");
+        let body = tokens
+            .iter()
+            .find_map(|t| group(t, Delimiter::Brace))
+            .expect("a body");
         for (variant, kind) in conversions(body) {
             code += &format!(
                 "impl ::core::convert::From<{kind}> for {name} {{
@@ -45,12 +48,16 @@ fn conversions(body: TokenStream) -> Vec<(String, String)> {
     let tokens: Vec<TokenTree> = body.into_iter().collect();
     let mut found = Vec::new();
     for pair in tokens.windows(2) {
-        let (TokenTree::Ident(variant), Some(fields)) = (&pair[0], group(&pair[1], Delimiter::Parenthesis))
+        let (TokenTree::Ident(variant), Some(fields)) =
+            (&pair[0], group(&pair[1], Delimiter::Parenthesis))
         else {
             continue;
         };
         let fields: Vec<TokenTree> = fields.into_iter().collect();
-        let from = fields.get(1).and_then(|t| group(t, Delimiter::Bracket)).map(|t| t.to_string());
+        let from = fields
+            .get(1)
+            .and_then(|t| group(t, Delimiter::Bracket))
+            .map(|t| t.to_string());
         if from.as_deref() == Some("from") {
             let kind: TokenStream = fields[2..].iter().cloned().collect();
             found.push((variant.to_string(), kind.to_string()));
