@@ -1,16 +1,64 @@
--- "Decode is also called from our C service, which gives the modulus as one number, 0 for native, and gets one 64-bit number:
--- the message, or 2^32 plus the refusal number."
-use Prim.Native.Nat.{ℕ, _+_, _^_}
+-- Answers of one number: "gets one 64-bit number: the message, or 2^32 plus the refusal number."
+use mathlib.Core.Bool.{Bool}
+use Prim.Native.Nat.{ℕ, _+_, _-_, _^_}
+use lib.Dec.{eqb}
+use Rattle.scheme.specs.Numbers.{pick}
 use Rattle.primus_reduce.specs.Ring.{modulusFor}
 use Rattle.primus_encoding.specs.declared.WordAnswer.{WordAnswer}
 use Rattle.primus_encoding.specs.declared.WordAnswer.the-variants.{Word, Refused}
-use Rattle.primus_encoding.specs.Answers.{decodeAnswer}
+use Rattle.primus_encoding.specs.Answers.{encodeAnswer, decodeAnswer}
+use Rattle.primus_lattice.specs.declared.tag.Tally.{Tally}
+use Rattle.primus_lattice.specs.declared.tag.Tally.the-variants.{Absent, Present}
+use Rattle.primus_lattice.specs.declared.tag.LweTagAnswer.{LweTagAnswer}
+use Rattle.primus_lattice.specs.declared.tag.LweTagAnswer.the-variants as T
+use Rattle.primus_lattice.specs.declared.tag.MarkAnswer.{MarkAnswer}
+use Rattle.primus_lattice.specs.declared.tag.MarkAnswer.the-variants as K
+use Rattle.primus_lwe.specs.declared.secret_key.borrowed.PhaseAnswer.{PhaseAnswer}
+use Rattle.primus_lwe.specs.declared.secret_key.borrowed.PhaseAnswer.the-variants as P
+use Rattle.primus_lwe.specs.declared.secret_key.message.MessageAnswer.{MessageAnswer}
+use Rattle.primus_lwe.specs.declared.secret_key.message.MessageAnswer.the-variants as M
+use Rattle.saigagalena.specs.Numbers.{embeddingFor}
 
--- the message, or 2^32 plus the refusal number
+-- 2^32 plus the refusal number
+abbrev pub refusedNumber : ℕ → ℕ
+refusedNumber r = 2 ^ 32 + r
+
 abbrev pub answerNumber : WordAnswer → ℕ
 answerNumber (Word x) = x
-answerNumber (Refused r) = 2 ^ 32 + r
+answerNumber (Refused r) = refusedNumber r
+
+abbrev pub phaseNumber : PhaseAnswer → ℕ
+phaseNumber (P.Phase p) = p
+phaseNumber (P.Refused r) = refusedNumber r
+
+abbrev pub messageNumber : MessageAnswer → ℕ
+messageNumber (M.Message m) = m
+messageNumber (M.Refused r) = refusedNumber r
 
 -- the decoding of a word, judged by 2, 7, 8 and 14
 abbrev pub decodeNumber : ℕ → ℕ → ℕ → ℕ
 decodeNumber n t p = answerNumber (decodeAnswer t (modulusFor n) p)
+
+-- the encoding of a message, judged by 2, 7, 8 and 16
+abbrev pub encodeNumber : ℕ → ℕ → ℕ → ℕ → ℕ
+encodeNumber n t centered m = answerNumber (encodeAnswer t (modulusFor n) (embeddingFor centered) m)
+
+-- a tally as one number: 2^64 − 1 where there is none; every other number above 2^32 is refused by 17
+abbrev pub noTally : ℕ
+noTally = 2 ^ 64 - 1
+
+abbrev pub tallyFor : ℕ → Tally
+tallyFor a = pick (eqb a noTally) Absent (Present a)
+
+abbrev pub numberOfTally : Tally → ℕ
+numberOfTally Absent = noTally
+numberOfTally (Present a) = a
+
+abbrev pub tagNumber : LweTagAnswer → ℕ
+tagNumber (T.Tag g) = numberOfTally (g .tally)
+tagNumber (T.Refused r) = refusedNumber r
+
+-- 1 where the mark is good
+abbrev pub markNumber : MarkAnswer → ℕ
+markNumber (K.Mark b) = pick b 1 0
+markNumber (K.Refused r) = refusedNumber r

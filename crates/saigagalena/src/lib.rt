@@ -1,31 +1,41 @@
-// The calls of the C service. include/saigagalena.h declares them for C and C++.
+// The calls of the C service: numbers and slices. include/saigagalena.h declares them for C and C++.
+mod answers;
+mod codec;
+mod encrypt;
+mod lattice;
+mod open;
+mod parameters;
+mod public_key;
 mod switch;
 
-ghost use mathlib.Core.Path.{_≡_};
-ghost use Rattle.saigagalena.specs.Service.{answerNumber, decodeNumber};
-use primus_encoding::RoundedCodec;
-use primus_encoding::RoundedCodecAnswer;
-use primus_encoding::WordAnswer;
-use primus_reduce::Modulus;
+pub use codec::saigagalena_decode;
+pub use codec::saigagalena_decode_slice;
+pub use codec::saigagalena_encode;
+pub use codec::saigagalena_encode_slice;
+pub use encrypt::saigagalena_encrypt_encoded;
+pub use encrypt::saigagalena_encrypt_encoded_packed;
+pub use encrypt::saigagalena_encrypt_encoded_signed;
+pub use encrypt::saigagalena_encrypt_message;
+pub use encrypt::saigagalena_encrypt_message_batch;
+pub use encrypt::saigagalena_encrypt_message_packed;
+pub use encrypt::saigagalena_encrypt_message_signed;
+pub use lattice::saigagalena_add;
+pub use lattice::saigagalena_add_tally;
+pub use lattice::saigagalena_extract;
+pub use lattice::saigagalena_is_good;
+pub use open::saigagalena_decrypt_message;
+pub use open::saigagalena_decrypt_message_batch;
+pub use open::saigagalena_decrypt_message_packed;
+pub use open::saigagalena_decrypt_message_signed;
+pub use open::saigagalena_decrypt_phase;
+pub use open::saigagalena_decrypt_phase_batch;
+pub use open::saigagalena_decrypt_phase_packed;
+pub use open::saigagalena_decrypt_phase_signed;
+pub use public_key::saigagalena_public_key_encrypt_encoded;
+pub use public_key::saigagalena_public_key_encrypt_message;
+pub use public_key::saigagalena_public_key_generate;
+pub use public_key::saigagalena_public_key_generate_signed;
+pub use switch::saigagalena_key_generate;
+pub use switch::saigagalena_key_generate_signed;
+pub use switch::saigagalena_key_switch;
 pub use switch::saigagalena_key_switch_batch;
-
-// The word, or 2^32 plus the refusal number.
-fn number_of(answer: WordAnswer) -> u64
-    ensures { λ r. ⌜ r ≡ answerNumber answer ⌝ }
-{
-    match answer {
-        WordAnswer::Word(x) => x as u64,
-        WordAnswer::Refused(r) => 0x1_0000_0000 + r as u64,
-    }
-}
-
-// decode(word), or 2^32 plus the first of 2, 7, 8, 14 that applies.
-#[no_mangle]
-pub extern "C" fn saigagalena_decode(modulus: u32, t: u32, word: u32) -> u64
-    ensures { λ r. ⌜ r ≡ decodeNumber modulus t word ⌝ }
-{
-    match RoundedCodec::try_new(t, Modulus::from_number(modulus)) {
-        RoundedCodecAnswer::Accepted(codec) => number_of(codec.decode_value(word)),
-        RoundedCodecAnswer::Refused(r) => number_of(WordAnswer::Refused(r)),
-    }
-}
