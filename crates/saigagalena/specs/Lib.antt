@@ -1,3 +1,4 @@
+pub mod Bases
 pub mod Numbers
 pub mod Service
 pub mod Switch

@@ -1,5 +1,6 @@
 // The calls of the C service: numbers and slices. include/saigagalena.h declares them for C and C++.
 mod answers;
+mod basis;
 mod codec;
 mod encrypt;
 mod lattice;
@@ -8,6 +9,9 @@ mod parameters;
 mod public_key;
 mod switch;
 
+pub use basis::saigagalena_basis;
+pub use basis::saigagalena_decompose;
+pub use basis::saigagalena_reading;
 pub use codec::saigagalena_decode;
 pub use codec::saigagalena_decode_slice;
 pub use codec::saigagalena_encode;
