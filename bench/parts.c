@@ -1,0 +1,118 @@
+/* Where the time of a batch switch goes, through the C calls: the checks alone (the same call with an output one word short is
+ * refused by 11 after every check), the digits of the same mask words alone, and the rest. Processor time, the least of several runs. */
+#include <stdio.h>
+#include <stdlib.h>
+#include <time.h>
+
+#include "saigagalena.h"
+
+enum { RUNS = 7, BASE_LOG = 4, BATCH = 64 };
+
+struct job {
+    uint32_t modulus;
+    size_t n, m, levels;
+    uint32_t *key, *input, *out, *mask, *digits;
+    size_t key_len, input_len, out_len, mask_len;
+};
+
+static uint64_t state = 1;
+
+/* Any words serve a benchmark. */
+static uint32_t word(uint32_t modulus)
+{
+    state = state * UINT64_C(6364136223846793005) + UINT64_C(1442695040888963407);
+    uint32_t x = (uint32_t)(state >> 32);
+    return modulus ? x % modulus : x;
+}
+
+static uint32_t *words(size_t len, uint32_t modulus)
+{
+    uint32_t *p = malloc(len * sizeof *p);
+    if (!p)
+        exit(1);
+    for (size_t i = 0; i < len; i++)
+        p[i] = word(modulus);
+    return p;
+}
+
+static double now(void)
+{
+    struct timespec t;
+    clock_gettime(CLOCK_PROCESS_CPUTIME_ID, &t);
+    return (double)t.tv_sec + 1e-9 * (double)t.tv_nsec;
+}
+
+static uint32_t whole(struct job *j)
+{
+    return saigagalena_key_switch_batch(j->modulus, BASE_LOG, 0, j->n, j->m, j->key, j->key_len, j->input, j->input_len, j->out,
+                                        j->out_len);
+}
+
+static uint32_t checks(struct job *j)
+{
+    return saigagalena_key_switch_batch(j->modulus, BASE_LOG, 0, j->n, j->m, j->key, j->key_len, j->input, j->input_len, j->out,
+                                        j->out_len - 1);
+}
+
+static uint32_t digits(struct job *j)
+{
+    return saigagalena_decompose(j->modulus, BASE_LOG, 0, j->mask, j->mask_len, j->digits, j->mask_len * j->levels);
+}
+
+/* Seconds of the quickest run; the answer must be the one expected. */
+static double least(uint32_t (*part)(struct job *), struct job *j, uint32_t expected)
+{
+    double best = 1e9;
+    for (int i = 0; i < RUNS; i++) {
+        double start = now();
+        uint32_t answer = part(j);
+        double spent = now() - start;
+        if (answer != expected)
+            exit(1);
+        if (spent < best)
+            best = spent;
+    }
+    return best;
+}
+
+static struct job prepared(uint32_t modulus, size_t n, size_t m)
+{
+    uint32_t basis[6];
+    if (saigagalena_basis(modulus, BASE_LOG, 0, basis, 6))
+        exit(1);
+    struct job j = {.modulus = modulus, .n = n, .m = m, .levels = basis[2]};
+    j.key_len = n * j.levels * (m + 1);
+    j.input_len = BATCH * (n + 1);
+    j.out_len = BATCH * (m + 1);
+    j.mask_len = BATCH * n;
+    j.key = words(j.key_len, modulus);
+    j.input = words(j.input_len, modulus);
+    j.out = words(j.out_len, modulus);
+    j.mask = words(j.mask_len, modulus);
+    j.digits = words(j.mask_len * j.levels, modulus);
+    return j;
+}
+
+static void report(uint32_t modulus, size_t n, size_t m)
+{
+    struct job j = prepared(modulus, n, m);
+    double all = least(whole, &j, 0), judged = least(checks, &j, SAIGAGALENA_OUTPUT_LENGTH), read = least(digits, &j, 0);
+    printf("| %10lu | %4zu / %4zu | %7.1f ms | %4.1f %% | %4.1f %% | %4.1f %% |\n", (unsigned long)modulus, n, m, 1e3 * all,
+           100 * judged / all, 100 * read / all, 100 * (all - judged - read) / all);
+    free(j.key);
+    free(j.input);
+    free(j.out);
+    free(j.mask);
+    free(j.digits);
+}
+
+int main(void)
+{
+    static const uint32_t moduli[] = {0, 2147483629, 65536};
+    puts("| modulus (0 native) | n / m | a batch of 64 | checks | digits | sums |\n|---|---|---|---|---|---|");
+    for (size_t i = 0; i < sizeof moduli / sizeof *moduli; i++) {
+        report(moduli[i], 630, 630);
+        report(moduli[i], 1024, 571);
+    }
+    return 0;
+}
