@@ -1,12 +1,35 @@
-/* The calls of the C service. Link target/staticlib/libsaigagalena.a, which `rt staticlib saigagalena` writes. */
+/*
+ * The calls of the C service. Link target/staticlib/libsaigagalena.a, which `rt staticlib saigagalena` writes.
+ *
+ * What holds of every call:
+ *
+ *   modulus      the ciphertext modulus q; 0 stands for the native modulus 2^32
+ *   n, m         dimensions, from 1 to 2048; a ciphertext has n mask words, then the body
+ *   t            the plaintext modulus, from 2 to 65536
+ *   bound        E: lent errors lie within -E .. E
+ *   base_log     log2 of the base B of the digits, from 2 to 31
+ *   levels       L; 0 stands for as many as fit
+ *   centered     0 encodes a message m as m; any other number as m - t from ceil(t/2) on
+ *   p, p_len     a slice: p_len elements from p on. The pointer may be null where the length is 0.
+ *
+ * A call that writes returns 0, or the first refusal number that applies; refused, it has written nothing. A call that
+ * answers one number returns it as 64 bits, or SAIGAGALENA_REFUSED plus the first refusal number that applies.
+ * Every length and every number is judged. What no number can say is the caller's to see to: each pointer is good
+ * for its length, and a buffer that is written overlaps no other.
+ * Nothing is allocated or kept; the stack used stays below 256 KiB; calls from several threads are fine.
+ * Running time depends on secrets in general: no promise is made about it.
+ */
 #ifndef SAIGAGALENA_H
 #define SAIGAGALENA_H
 
 #include <stddef.h>
 #include <stdint.h>
 
-/* A number from here on is a refusal: this plus the refusal number. Below it, a number is the result. */
+/* An answer of 64 bits above this is a refusal: this plus the refusal number. */
 #define SAIGAGALENA_REFUSED UINT64_C(0x100000000)
+
+/* The tally of a public-key, packed or switched ciphertext: none. */
+#define SAIGAGALENA_NO_TALLY UINT64_MAX
 
 /* Refusal numbers. Where several apply, the smallest is given. */
 #define SAIGAGALENA_BASE_LOG 1            /* the base log is below 2 or above 31 */
@@ -14,48 +37,173 @@
 #define SAIGAGALENA_MODULUS_BELOW_BASE 3  /* the modulus is not 0 and below 2^(base log) */
 #define SAIGAGALENA_NO_LEVEL_FITS 4       /* not one whole level fits; never given */
 #define SAIGAGALENA_LEVELS 5              /* more levels than fit */
-#define SAIGAGALENA_DIMENSION 6           /* n or m is 0 or above 2048 */
+#define SAIGAGALENA_DIMENSION 6           /* a dimension is 0 or above 2048 */
 #define SAIGAGALENA_PLAINTEXT_MODULUS 7   /* t is below 2 or above 65536 */
 #define SAIGAGALENA_MODULUS_AT_MOST_T 8   /* the modulus is not 0 and at most t */
-#define SAIGAGALENA_KEY_LENGTH 9          /* the key is not n * L * (m + 1) words */
-#define SAIGAGALENA_INPUT_LENGTH 10       /* the input is no multiple of n + 1 words */
-#define SAIGAGALENA_OUTPUT_LENGTH 11      /* the output has not m + 1 words for each ciphertext */
-#define SAIGAGALENA_WORD_NOT_BELOW_Q 14   /* the modulus is not 0 and a word is not below it */
+#define SAIGAGALENA_KEY_LENGTH 9          /* a key has another length than its dimensions and levels give */
+#define SAIGAGALENA_INPUT_LENGTH 10       /* ciphertexts of the wrong length, or more than n packed messages */
+#define SAIGAGALENA_OUTPUT_LENGTH 11      /* an output has the wrong length */
+#define SAIGAGALENA_LENT_LENGTH 12        /* masks, errors or coefficients have the wrong length */
+#define SAIGAGALENA_BOUND 13              /* E is above 1048576, or not below the modulus */
+#define SAIGAGALENA_WORD_NOT_BELOW_Q 14   /* a word is not below q, or a signed key number not within -q .. q */
+#define SAIGAGALENA_ERROR_OUTSIDE 15      /* an error is outside -E .. E, or a coefficient none of -1, 0, 1 */
+#define SAIGAGALENA_MESSAGE_NOT_BELOW_T 16 /* a message is not below t */
+#define SAIGAGALENA_TALLY 17              /* a tally, given or summed, exceeds 2^32 */
 
 #ifdef __cplusplus
 extern "C" {
 #endif
 
-/*
- * The message of a phase: floor((2 * word * t + q) / (2 * q)) mod t.
- *
- *   modulus  the ciphertext modulus q; 0 stands for the native modulus 2^32
- *   t        the plaintext modulus
- *   word     the phase, below q
- *
- * Returns the message, from 0 to t - 1, or SAIGAGALENA_REFUSED plus the first
- * of 2, 7, 8, 14 that applies. Every triple has an answer; nothing is read or
- * written but the three numbers, and calls from several threads are fine.
- */
+/* ---- basis and readings */
+
+/* The basis in six words: k, B, L, d, H, T. Refuses by 1 to 5, 11 (out_len is not 6). */
+uint32_t saigagalena_basis(uint32_t modulus, uint32_t base_log, uint32_t levels, uint32_t *out, size_t out_len);
+
+/* The reading of a word and its error, in two numbers. Refuses by 1 to 5, 11 (out_len is not 2), 14. */
+uint32_t saigagalena_reading(uint32_t modulus, uint32_t base_log, uint32_t levels, uint32_t word, int64_t *out, size_t out_len);
+
+/* The digits of each word, as L runs of input_len words, lowest level first; a negative digit is stored as q + digit.
+ * Refuses by 1 to 5, 11, 14. */
+uint32_t saigagalena_decompose(uint32_t modulus, uint32_t base_log, uint32_t levels, const uint32_t *input, size_t input_len,
+                               uint32_t *out, size_t out_len);
+
+/* ---- codec */
+
+/* floor((2 m q + t) / (2 t)); centered, q minus that of t - m from ceil(t/2) on. The word, or a refusal by 2, 7, 8, 16. */
+uint64_t saigagalena_encode(uint32_t modulus, uint32_t t, uint32_t centered, uint32_t message);
+
+/* The message of a phase: floor((2 * word * t + q) / (2 * q)) mod t. The message, or a refusal by 2, 7, 8, 14. */
 uint64_t saigagalena_decode(uint32_t modulus, uint32_t t, uint32_t word);
 
+/* The same of each message or word, in its place. Refuse by 2, 7, 8, 11, and 16 or 14. */
+uint32_t saigagalena_encode_slice(uint32_t modulus, uint32_t t, uint32_t centered, const uint32_t *messages, size_t messages_len,
+                                  uint32_t *out, size_t out_len);
+uint32_t saigagalena_decode_slice(uint32_t modulus, uint32_t t, const uint32_t *words, size_t words_len, uint32_t *out, size_t out_len);
+
+/* ---- encryption under a secret key: n words below q, or n signed numbers, each standing for itself modulo q */
+
+/* out: the mask, then <mask, secret> + error + plaintext modulo q. The mask has n words, the errors one.
+ * Refuse by 2, 6, 9, 11, 12, 13, 14, 15. */
+uint32_t saigagalena_encrypt_encoded(uint32_t modulus, size_t n, uint32_t bound, const uint32_t *secret, size_t secret_len,
+                                     const uint32_t *mask, size_t mask_len, const int32_t *errors, size_t errors_len,
+                                     uint32_t plaintext, uint32_t *out, size_t out_len);
+uint32_t saigagalena_encrypt_encoded_signed(uint32_t modulus, size_t n, uint32_t bound, const int32_t *secret, size_t secret_len,
+                                            const uint32_t *mask, size_t mask_len, const int32_t *errors, size_t errors_len,
+                                            uint32_t plaintext, uint32_t *out, size_t out_len);
+
+/* The same of an encoded message. A fresh ciphertext has the tally E. Refuse by 2, 6, 7, 8, 9, 11, 12, 13, 14, 15, 16. */
+uint32_t saigagalena_encrypt_message(uint32_t modulus, size_t n, uint32_t t, uint32_t bound, uint32_t centered,
+                                     const uint32_t *secret, size_t secret_len, const uint32_t *mask, size_t mask_len,
+                                     const int32_t *errors, size_t errors_len, uint32_t message, uint32_t *out, size_t out_len);
+uint32_t saigagalena_encrypt_message_signed(uint32_t modulus, size_t n, uint32_t t, uint32_t bound, uint32_t centered,
+                                            const int32_t *secret, size_t secret_len, const uint32_t *mask, size_t mask_len,
+                                            const int32_t *errors, size_t errors_len, uint32_t message, uint32_t *out,
+                                            size_t out_len);
+
+/* A ciphertext for each message: n mask words and an error for each, n + 1 output words. Refuses as encrypt_message. */
+uint32_t saigagalena_encrypt_message_batch(uint32_t modulus, size_t n, uint32_t t, uint32_t bound, uint32_t centered,
+                                           const uint32_t *secret, size_t secret_len, const uint32_t *masks, size_t masks_len,
+                                           const int32_t *errors, size_t errors_len, const uint32_t *messages,
+                                           size_t messages_len, uint32_t *out, size_t out_len);
+
+/* Up to n plaintexts or messages under one mask: n mask words, then a body for each. No tally.
+ * Refuse by 2, 6, 9, 10, 11, 12, 13, 14, 15, and for messages 7, 8, 16 too. */
+uint32_t saigagalena_encrypt_encoded_packed(uint32_t modulus, size_t n, uint32_t bound, const uint32_t *secret, size_t secret_len,
+                                            const uint32_t *mask, size_t mask_len, const int32_t *errors, size_t errors_len,
+                                            const uint32_t *plaintexts, size_t plaintexts_len, uint32_t *out, size_t out_len);
+uint32_t saigagalena_encrypt_message_packed(uint32_t modulus, size_t n, uint32_t t, uint32_t bound, uint32_t centered,
+                                            const uint32_t *secret, size_t secret_len, const uint32_t *mask, size_t mask_len,
+                                            const int32_t *errors, size_t errors_len, const uint32_t *messages,
+                                            size_t messages_len, uint32_t *out, size_t out_len);
+
+/* ---- opening */
+
+/* body - <mask, secret> modulo q. The phase, or a refusal by 2, 6, 9, 10, 13, 14. */
+uint64_t saigagalena_decrypt_phase(uint32_t modulus, size_t n, uint32_t bound, const uint32_t *secret, size_t secret_len,
+                                   const uint32_t *ciphertext, size_t ciphertext_len);
+uint64_t saigagalena_decrypt_phase_signed(uint32_t modulus, size_t n, uint32_t bound, const int32_t *secret, size_t secret_len,
+                                          const uint32_t *ciphertext, size_t ciphertext_len);
+
+/* The message in the phase, or a refusal by 2, 6, 7, 8, 9, 10, 13, 14. */
+uint64_t saigagalena_decrypt_message(uint32_t modulus, size_t n, uint32_t t, uint32_t bound, const uint32_t *secret,
+                                     size_t secret_len, const uint32_t *ciphertext, size_t ciphertext_len);
+uint64_t saigagalena_decrypt_message_signed(uint32_t modulus, size_t n, uint32_t t, uint32_t bound, const int32_t *secret,
+                                            size_t secret_len, const uint32_t *ciphertext, size_t ciphertext_len);
+
+/* The phase or message of each ciphertext of n + 1 words; any number of them, none is fine.
+ * Refuse by 2, 6, 9, 10, 11, 13, 14, and for messages 7, 8 too. */
+uint32_t saigagalena_decrypt_phase_batch(uint32_t modulus, size_t n, uint32_t bound, const uint32_t *secret, size_t secret_len,
+                                         const uint32_t *input, size_t input_len, uint32_t *out, size_t out_len);
+uint32_t saigagalena_decrypt_message_batch(uint32_t modulus, size_t n, uint32_t t, uint32_t bound, const uint32_t *secret,
+                                           size_t secret_len, const uint32_t *input, size_t input_len, uint32_t *out,
+                                           size_t out_len);
+
+/* The phase or message of each body of a packed ciphertext. Refuse as the batches. */
+uint32_t saigagalena_decrypt_phase_packed(uint32_t modulus, size_t n, uint32_t bound, const uint32_t *secret, size_t secret_len,
+                                          const uint32_t *input, size_t input_len, uint32_t *out, size_t out_len);
+uint32_t saigagalena_decrypt_message_packed(uint32_t modulus, size_t n, uint32_t t, uint32_t bound, const uint32_t *secret,
+                                            size_t secret_len, const uint32_t *input, size_t input_len, uint32_t *out,
+                                            size_t out_len);
+
+/* ---- public key: n ciphertexts of 0, one after the other */
+
+/* From n masks and n errors. Refuse by 2, 6, 9, 11, 12, 13, 14, 15. */
+uint32_t saigagalena_public_key_generate(uint32_t modulus, size_t n, uint32_t bound, const uint32_t *secret, size_t secret_len,
+                                         const uint32_t *masks, size_t masks_len, const int32_t *errors, size_t errors_len,
+                                         uint32_t *out, size_t out_len);
+uint32_t saigagalena_public_key_generate_signed(uint32_t modulus, size_t n, uint32_t bound, const int32_t *secret,
+                                                size_t secret_len, const uint32_t *masks, size_t masks_len,
+                                                const int32_t *errors, size_t errors_len, uint32_t *out, size_t out_len);
+
+/* One ciphertext from n + 1 errors and n coefficients, each -1, 0 or 1. No tally.
+ * Refuse by 2, 6, 9, 11, 12, 13, 14, 15, and for a message 7, 8, 16 too. */
+uint32_t saigagalena_public_key_encrypt_encoded(uint32_t modulus, size_t n, uint32_t bound, const uint32_t *key, size_t key_len,
+                                                const int32_t *errors, size_t errors_len, const int32_t *coefficients,
+                                                size_t coefficients_len, uint32_t plaintext, uint32_t *out, size_t out_len);
+uint32_t saigagalena_public_key_encrypt_message(uint32_t modulus, size_t n, uint32_t t, uint32_t bound, uint32_t centered,
+                                                const uint32_t *key, size_t key_len, const int32_t *errors, size_t errors_len,
+                                                const int32_t *coefficients, size_t coefficients_len, uint32_t message,
+                                                uint32_t *out, size_t out_len);
+
+/* ---- sums and marks */
+
+/* x + y modulo q, word by word, in x. Refuses by 2, 6, 10, 14. */
+uint32_t saigagalena_add(uint32_t modulus, size_t n, uint32_t *x, size_t x_len, const uint32_t *y, size_t y_len);
+
+/* The tally of a sum: the sum of the tallies, up to 2^32; SAIGAGALENA_NO_TALLY where one has none; or
+ * SAIGAGALENA_REFUSED + 17. */
+uint64_t saigagalena_add_tally(uint64_t x, uint64_t y);
+
+/* 1 where 2 t * tally + t < q, so that the ciphertext is marked good; else 0; or a refusal by 2, 7, 8, 17. */
+uint64_t saigagalena_is_good(uint32_t modulus, uint32_t t, uint64_t tally);
+
+/* Body `index` of a packed ciphertext as a ciphertext of one message. Refuses by 2, 6, 10, 11, 14. */
+uint32_t saigagalena_extract(uint32_t modulus, size_t n, const uint32_t *input, size_t input_len, size_t index, uint32_t *out,
+                             size_t out_len);
+
+/* ---- key switching */
+
 /*
- * Switches a batch of ciphertexts, each n mask words and a body, to another key: row t of the output is
- * (0, b) minus the sum of digit(i, j) * entry(i, j) modulo q, for row t of the input.
- *
- *   modulus          q; 0 stands for the native modulus 2^32
- *   base_log         log2 of the base of the digits
- *   levels           L; 0 stands for as many as fit
- *   n, m             dimensions of the input and of the output
- *   key, key_len     the switching key: for each mask place, then each level, m + 1 words
- *   input, input_len any number of ciphertexts of n + 1 words; none is fine
- *   out, out_len     as many ciphertexts of m + 1 words
- *
- * Returns 0, or the first of 1 to 6, 9, 10, 11, 14 that applies; the output then holds what it held before.
- * Lengths are numbers of words. What no number can say is the caller's to see to: each pointer is good for
- * its length (it may be null where the length is 0), and the output overlaps neither key nor input.
- * Nothing is allocated; the stack used stays below 256 KiB; calls from several threads are fine.
+ * A switching key: for each place i of the input key, then each level j, an encryption of s_i * weight j under the
+ * output key: m + 1 words. Masks (m words each) and errors (one each) are lent in that order; errors lie within
+ * -bound .. bound. Refuse by 1 to 6, 9, 11, 12, 13, 14, 15.
  */
+uint32_t saigagalena_key_generate(uint32_t modulus, uint32_t base_log, uint32_t levels, size_t n, size_t m, uint32_t bound,
+                                  const uint32_t *input_key, size_t input_key_len, const uint32_t *output_key,
+                                  size_t output_key_len, const uint32_t *masks, size_t masks_len, const int32_t *errors,
+                                  size_t errors_len, uint32_t *out, size_t out_len);
+uint32_t saigagalena_key_generate_signed(uint32_t modulus, uint32_t base_log, uint32_t levels, size_t n, size_t m,
+                                         uint32_t bound, const int32_t *input_key, size_t input_key_len,
+                                         const uint32_t *output_key, size_t output_key_len, const uint32_t *masks,
+                                         size_t masks_len, const int32_t *errors, size_t errors_len, uint32_t *out,
+                                         size_t out_len);
+
+/* One ciphertext under the output key: (0, b) minus the sum of digit(i, j) * entry(i, j) modulo q. No tally.
+ * Refuses by 1 to 6, 9, 10, 11, 14. */
+uint32_t saigagalena_key_switch(uint32_t modulus, uint32_t base_log, uint32_t levels, size_t n, size_t m, const uint32_t *key,
+                                size_t key_len, const uint32_t *input, size_t input_len, uint32_t *out, size_t out_len);
+
+/* Each ciphertext of n + 1 words to its own of m + 1; any number of them, none is fine. Refuses as one switch. */
 uint32_t saigagalena_key_switch_batch(uint32_t modulus, uint32_t base_log, uint32_t levels, size_t n, size_t m,
                                       const uint32_t *key, size_t key_len, const uint32_t *input, size_t input_len,
                                       uint32_t *out, size_t out_len);
