@@ -19,7 +19,8 @@ if [ -n "${SANITIZE:-}" ]; then
     flags="-O1 -g -fsanitize=address,undefined -fno-sanitize-recover=all"
 fi
 # shellcheck disable=SC2086 # the flags are several words
-"$cc" -std=c11 -Wall -Wextra -Wpedantic -Werror $flags -Iinclude tests/c/fuzz.c tests/c/compare.c tests/c/place.c \
-    tests/c/draw.c tests/c/damage.c tests/c/library.c tests/c/model.c tests/c/lengths.c tests/c/results.c "$archive" -o "$room/fuzz"
+"$cc" -std=c11 -Wall -Wextra -Wpedantic -Werror $flags -Iinclude \
+    tests/c/fuzz.c tests/c/compare.c tests/c/place.c tests/c/draw.c tests/c/damage.c tests/c/library.c \
+    tests/c/model.c tests/c/lengths.c tests/c/results.c "$archive" -o "$room/fuzz"
 "$room/fuzz" "$@"
 echo "c_fuzz: OK"

@@ -9,26 +9,30 @@
 
 #include "library.h"
 
-static const char *const field_names[FIELDS] = {"key", "signed key", "output key", "mask", "errors", "coefficients", "input", "out"};
-static const char *const placement_names[PLACEMENTS] = {"behind a closed page", "before a closed page", "between guard words", "on the heap"};
+static const char *const field_names[FIELDS] = {"key",    "signed key",   "output key", "mask",
+                                                "errors", "coefficients", "input",      "out"};
+static const char *const placement_names[PLACEMENTS] = {"behind a closed page", "before a closed page", "between guard words",
+                                                        "on the heap"};
 
-static void print_words(const char *name, const void *at, size_t words)
+/* A slice of 64-bit numbers is printed as words too, the lower half first. */
+static void print_words(const char *name, const void *at, size_t words, int is_signed)
 {
     printf("  %s, %zu words of 32 bits:", name, words);
     for (size_t i = 0; i < words; i++)
-        printf(" %" PRIu32, ((const uint32_t *)at)[i]);
+        printf(" %" PRId64, is_signed ? (int64_t)((const int32_t *)at)[i] : (int64_t)((const uint32_t *)at)[i]);
     printf("\n");
 }
 
 static void print_operands(const struct call *call, const struct operands *o)
 {
-    printf("  modulus %" PRIu32 ", base log %" PRIu32 ", levels %" PRIu32 ", n %zu, m %zu, t %" PRIu32 ", bound %" PRIu32, o->modulus,
-           o->base_log, o->levels, o->n, o->m, o->t, o->bound);
-    printf(", centered %" PRIu32 ", value %" PRIu32 ", index %zu, tallies %" PRIu64 " %" PRIu64 "\n", o->centered, o->value, o->index,
-           o->tally[0], o->tally[1]);
+    printf("  modulus %" PRIu32 ", base log %" PRIu32 ", levels %" PRIu32, o->modulus, o->base_log, o->levels);
+    printf(", n %zu, m %zu, t %" PRIu32 ", bound %" PRIu32, o->n, o->m, o->t, o->bound);
+    printf(", centered %" PRIu32 ", value %" PRIu32 ", index %zu", o->centered, o->value, o->index);
+    printf(", tallies %" PRIu64 " %" PRIu64 "\n", o->tally[0], o->tally[1]);
     for (int f = 0; f < FIELDS; f++)
         if (call->fields >> f & 1)
-            print_words(field_names[f], o->slice[f].at, len(o, f) * element_size(call, f) / 4);
+            print_words(field_names[f], o->slice[f].at, len(o, f) * element_size(call, f) / 4,
+                        f == SIGNED_KEY || f == ERRORS || f == COEFFICIENTS);
 }
 
 static const struct call *current_call;
@@ -76,8 +80,8 @@ static int buffers_agree(const struct call *call, const struct operands *o, cons
         if (!(call->fields >> f & 1) || same_bytes(placed->slice[f].at, want, bytes))
             continue;
         printf("%s: %s differs\n", call->name, field_names[f]);
-        print_words("got", placed->slice[f].at, bytes / 4);
-        print_words("expected", want, bytes / 4);
+        print_words("got", placed->slice[f].at, bytes / 4, 0);
+        print_words("expected", want, bytes / 4, 0);
         agree = 0;
     }
     return agree;

@@ -137,7 +137,8 @@ static void damage_value(const struct call *call, const struct damage *damage, s
 /* The first, the second or both; near 2^32, where a sum passes it, and near 2^64, where it wraps. */
 static void damage_tally(const struct damage *damage, struct operands *o)
 {
-    const uint64_t two32 = UINT64_C(1) << 32, bad[] = {two32 + 1, two32 / 2 + 1, UINT64_C(1) << 63, UINT64_MAX - 1, UINT64_MAX - two32 + 1};
+    const uint64_t two32 = UINT64_C(1) << 32;
+    const uint64_t bad[] = {two32 + 1, two32 / 2 + 1, UINT64_C(1) << 63, UINT64_MAX - 1, UINT64_MAX - two32 + 1};
     const unsigned which = damage->variant / 5;
 
     if (which != 1)
@@ -160,7 +161,8 @@ static void damage_length(const struct call *call, const struct damage *damage, 
 static int64_t bad_element(const struct call *call, enum field f, unsigned variant, const struct operands *o)
 {
     const int64_t q = (int64_t)q_of(o->modulus), t = o->t, E = o->bound;
-    const int64_t words[] = {q, UINT32_MAX, q + 1, q}, messages[] = {t, t + 1, q, UINT32_MAX}, keys[] = {q, -q, INT32_MIN, INT32_MAX};
+    const int64_t words[] = {q, UINT32_MAX, q + 1, q}, messages[] = {t, t + 1, q, UINT32_MAX};
+    const int64_t keys[] = {q, -q, INT32_MIN, INT32_MAX};
     const int64_t errors[] = {E + 1, -E - 1, INT32_MIN, INT32_MAX}, coefficients[] = {2, -2, INT32_MIN, INT32_MAX};
 
     switch (f) {
@@ -190,10 +192,8 @@ static void damage_content(struct draw *d, const struct call *call, const struct
     ((uint32_t *)o->slice[f].at)[places[damage->variant / 4]] = (uint32_t)bad;
 }
 
-void do_damage(struct draw *d, const struct call *call, const struct damage *damage, enum stage stage, struct operands *o)
+static void damage_parameter(const struct damage *damage, struct operands *o)
 {
-    if (damage->stage != stage)
-        return;
     switch (damage->what) {
     case BAD_BASE_LOG:
     case BAD_LEVELS:
@@ -206,16 +206,25 @@ void do_damage(struct draw *d, const struct call *call, const struct damage *dam
         damage_modulus_for_base(damage, o);
         break;
     case BAD_N:
+        damage_dimension(damage, &o->n);
+        break;
     case BAD_M:
-        damage_dimension(damage, damage->what == BAD_N ? &o->n : &o->m);
+        damage_dimension(damage, &o->m);
         break;
     case BAD_T:
     case BAD_MODULUS_FOR_T:
         damage_t(damage, o);
         break;
-    case BAD_BOUND:
+    default:
         damage_bound(damage, o);
-        break;
+    }
+}
+
+void do_damage(struct draw *d, const struct call *call, const struct damage *damage, enum stage stage, struct operands *o)
+{
+    if (damage->stage != stage)
+        return;
+    switch (damage->what) {
     case BAD_INDEX:
         damage_index(damage, o);
         break;
@@ -231,5 +240,7 @@ void do_damage(struct draw *d, const struct call *call, const struct damage *dam
     case BAD_CONTENT:
         damage_content(d, call, damage, o);
         break;
+    default:
+        damage_parameter(damage, o);
     }
 }

@@ -32,7 +32,8 @@ static uint64_t least(uint64_t x, uint64_t y)
 
 static uint32_t draw_modulus(struct draw *d)
 {
-    static const uint32_t moduli[] = {0, 0, 0, 4, 5, 16, 17, 257, 65536, 65537, 2147483647, 2147483648u, 2147483649u, 4294967291u, 4294967295u};
+    static const uint32_t moduli[] = {0,     0,     0,          4,           5,           16,          17,         257,
+                                      65536, 65537, 2147483647, 2147483648u, 2147483649u, 4294967291u, 4294967295u};
 
     switch (draw_below(d, 8)) {
     case 0:
@@ -89,7 +90,8 @@ static size_t draw_dimension(struct draw *d)
 static uint64_t draw_tally(struct draw *d)
 {
     const uint64_t two32 = UINT64_C(1) << 32;
-    const uint64_t tallies[] = {0, 1, 1048576, draw_below(d, 1 << 24), draw_word(d), two32 / 2, two32 - 1, two32, SAIGAGALENA_NO_TALLY};
+    const uint64_t tallies[] = {0,         1,         1048576, draw_below(d, 1 << 24), draw_word(d),
+                                two32 / 2, two32 - 1, two32,   SAIGAGALENA_NO_TALLY};
 
     return CHOOSE(d, tallies);
 }
@@ -186,8 +188,8 @@ static int fit_lengths(const struct call *call, const struct plan *plan, struct 
 }
 
 /* Damaged parameters may ask for more than there is: then the lengths are those of `fitting`, the parameters undamaged. */
-static void draw_lengths(struct draw *d, const struct call *call, const struct plan *plan, const struct damage *damages, size_t count,
-                         struct operands *fitting, struct operands *o)
+static void draw_lengths(struct draw *d, const struct call *call, const struct plan *plan, const struct damage *damages,
+                         size_t count, struct operands *fitting, struct operands *o)
 {
     o->slice[INPUT].len = draw_input_length(d, call, plan, o);
     damage_all(d, call, damages, count, INPUT_LENGTH, o);

@@ -126,6 +126,7 @@ int main(int count, char **arguments)
         done++;
     }
     print_table();
-    printf("seed %" PRIu64 ": %" PRIu64 " calls in %.1f s, %s\n", seed, done, now() - start, good ? "no difference" : "the last one differs");
+    printf("seed %" PRIu64 ": %" PRIu64 " calls in %.1f s, ", seed, done, now() - start);
+    printf(good ? "no difference\n" : "the last one differs\n");
     return !good;
 }

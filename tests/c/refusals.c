@@ -40,7 +40,8 @@ static void try(const struct call *call, const struct operands *o, struct seen *
         seen->pair[first][other] += applying >> other & 1;
 }
 
-static void try_drawn(const struct call *call, const struct plan *plan, const struct damage *damages, size_t count, struct seen *seen)
+static void try_drawn(const struct call *call, const struct plan *plan, const struct damage *damages, size_t count,
+                      struct seen *seen)
 {
     struct operands o;
 
@@ -118,33 +119,33 @@ static uint32_t listed(const struct call *call)
     return numbers;
 }
 
-/* Whether the pair can be had. 4 and its pairs are never first: where 4 applies, 1 or 3 does. */
-static int expected_pair(unsigned x, unsigned y)
+/* Whether both were to be seen with x first. Never 4: where it applies, 1 or 3 does. */
+static int missing_pair(uint32_t numbers, const struct seen *seen, unsigned x, unsigned y)
 {
-    return x != 4 && x < y;
+    return x != 4 && numbers >> x & 1 && numbers >> y & 1 && seen->pair[x][y] == 0;
 }
 
-/* The numbers that were given are those that the header lists, each also alone; and all pairs of them. */
+/* The numbers that were given are those that the header lists, each also alone, and each before every later one. */
 static int covered(const struct call *call, const struct seen *seen)
 {
     const uint32_t numbers = listed(call);
     int good = 1;
 
     for (unsigned x = 1; x < NUMBERS; x++) {
-        const int is_listed = numbers >> x & 1;
+        const int due = x != 4 && numbers >> x & 1;
+        /* a modulus below 4 is below every base, so 3 applies too */
+        const int due_alone = due && !(x == 2 && call->takes & BASE);
 
-        if ((is_listed && x != 4) != (seen->first[x] != 0)) {
-            printf("  %u was %sgiven, against the header\n", x, seen->first[x] ? "" : "not ");
+        if (due != (seen->first[x] != 0) || (due_alone && seen->alone[x] == 0)) {
+            printf("  %u was first %lu times, alone %lu times\n", x, seen->first[x], seen->alone[x]);
             good = 0;
         }
-        /* a modulus below 4 is below every base */
-        if (is_listed && x != 4 && !(x == 2 && call->takes & BASE) && seen->alone[x] == 0) {
-            printf("  %u was not seen alone\n", x);
-            good = 0;
-        }
-        for (unsigned y = x + 1; y < NUMBERS; y++)
-            if (is_listed && numbers >> y & 1 && expected_pair(x, y) && seen->pair[x][y] == 0)
+        for (unsigned y = x + 1; y < NUMBERS; y++) {
+            if (missing_pair(numbers, seen, x, y)) {
                 printf("  %u before %u was not seen\n", x, y);
+                good = 0;
+            }
+        }
     }
     return good;
 }
@@ -172,7 +173,8 @@ int main(void)
         try_accepted(&calls[i], &seen);
         try_damages(&calls[i], &seen);
         try_empty(&calls[i], &seen);
-        printf("%-28s %9lu %9lu %9lu %9lu %9lu\n", calls[i].name, seen.accepted, seen.refused, pairs(&seen), seen.empty, seen.wrong);
+        printf("%-28s %9lu %9lu %9lu ", calls[i].name, seen.accepted, seen.refused, pairs(&seen));
+        printf("%9lu %9lu\n", seen.empty, seen.wrong);
         good &= covered(&calls[i], &seen);
         wrong += seen.wrong;
         all += seen.accepted + seen.refused + seen.empty;
