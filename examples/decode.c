@@ -1,4 +1,4 @@
-/* Decodes through the C call and compares the answers with those of document 01. scripts/c_decode.sh builds and runs it. */
+/* Decodes through the C call and compares the answers with those of document 01. scripts/c_test.sh builds and runs it. */
 #include <inttypes.h>
 #include <stdio.h>
 

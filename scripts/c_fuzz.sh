@@ -1,0 +1,26 @@
+#!/bin/sh
+# Fuzzing of the static library through C: damaged copies of good operands for every call, against a plain C model of
+# document 01. `scripts/c_fuzz.sh [SEED [COUNT [SECONDS]]]`, by default 1 1000000 120: it ends after so many calls or
+# so many seconds, whichever comes first. Takes the archive that ARCHIVE names, or builds it with `rt staticlib`.
+# SANITIZE=1 compiles the C side with sanitizers. No part of the gate: it wants a C compiler (CC, default cc) on x86-64.
+set -eu
+cd "$(dirname "$0")/.."
+cc=${CC:-cc}
+room=$(mktemp -d)
+trap 'rm -rf "$room"' EXIT
+
+archive=${ARCHIVE:-}
+if [ -z "$archive" ]; then
+    rt staticlib saigagalena >"$room/log" 2>&1 || { cat "$room/log"; exit 1; }
+    archive=target/staticlib/libsaigagalena.a
+fi
+flags="-O2"
+if [ -n "${SANITIZE:-}" ]; then
+    flags="-O1 -g -fsanitize=address,undefined -fno-sanitize-recover=all"
+fi
+# shellcheck disable=SC2086 # the flags are several words
+"$cc" -std=c11 -Wall -Wextra -Wpedantic -Werror $flags -Iinclude \
+    tests/c/fuzz.c tests/c/compare.c tests/c/place.c tests/c/draw.c tests/c/damage.c tests/c/library.c \
+    tests/c/model.c tests/c/lengths.c tests/c/results.c "$archive" -o "$room/fuzz"
+"$room/fuzz" "$@"
+echo "c_fuzz: OK"

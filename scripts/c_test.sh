@@ -1,0 +1,64 @@
+#!/bin/sh
+# The C interface, tried: builds the static library with `rt staticlib saigagalena` (or takes the one that ARCHIVE
+# names), compiles the header as C11 and C++, the examples and the tests, each without and with sanitizers, and runs
+# them. No part of the gate: it wants a C compiler on x86-64 (CC, default cc; CXX, default c++, is left out where there
+# is none; so are the sanitizers).
+set -eu
+cd "$(dirname "$0")/.."
+cc=${CC:-cc}
+cxx=${CXX:-c++}
+room=$(mktemp -d)
+trap 'rm -rf "$room"' EXIT
+strict="-Wall -Wextra -Wpedantic -Werror -Iinclude"
+harness="tests/c/compare.c tests/c/place.c tests/c/draw.c tests/c/damage.c tests/c/library.c"
+model="tests/c/model.c tests/c/lengths.c tests/c/results.c"
+
+archive=${ARCHIVE:-}
+if [ -z "$archive" ]; then
+    rt staticlib saigagalena >"$room/log" 2>&1 || { cat "$room/log"; exit 1; }
+    archive=target/staticlib/libsaigagalena.a
+fi
+
+echo '#include "saigagalena.h"' >"$room/header.c"
+cp "$room/header.c" "$room/header.cpp"
+# shellcheck disable=SC2086 # the flags are several words
+"$cc" -std=c11 $strict -fsyntax-only "$room/header.c"
+if command -v "$cxx" >/dev/null; then
+    # shellcheck disable=SC2086
+    "$cxx" $strict -fsyntax-only "$room/header.cpp"
+    echo "c_test: the header is C11 and C++"
+else
+    echo "c_test: the header is C11; no C++ compiler"
+fi
+
+# Builds everything in a directory of its own, with the flags given, and runs it.
+try() {
+    dir="$room/$1"
+    shift
+    mkdir "$dir"
+    # shellcheck disable=SC2086
+    {
+        "$cc" -std=c11 $strict "$@" examples/decode.c "$archive" -o "$dir/decode"
+        "$cc" -std=c11 $strict "$@" examples/pool.c "$archive" -o "$dir/pool"
+        "$cc" -std=c11 $strict "$@" tests/c/cases.c "$archive" -o "$dir/cases"
+        "$cc" -std=c11 $strict "$@" tests/c/refusals.c $harness $model "$archive" -o "$dir/refusals"
+    }
+    "$dir/decode"
+    "$dir/pool" >"$dir/pool.out"
+    diff examples/pool.out "$dir/pool.out"
+    "$dir/cases"
+    "$dir/refusals"
+}
+
+try plain -O2
+# The header says that a call uses less than 256 KiB of stack; here the test has no more, itself and all.
+(ulimit -s 256 && env -i "$room/plain/refusals") >"$room/stack" 2>&1 || { tail "$room/stack"; exit 1; }
+echo "c_test: the same within 256 KiB of stack"
+sanitize="-O1 -g -fsanitize=address,undefined -fno-sanitize-recover=all"
+# shellcheck disable=SC2086
+if echo 'int main(void) { return 0; }' | "$cc" -x c $sanitize -o "$room/probe" - 2>/dev/null && "$room/probe"; then
+    try sanitized $sanitize
+else
+    echo "c_test: no sanitizers here"
+fi
+echo "c_test: OK"
