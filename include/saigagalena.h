@@ -25,7 +25,7 @@
 #include <stddef.h>
 #include <stdint.h>
 
-/* An answer of 64 bits above this is a refusal: this plus the refusal number. */
+/* An answer of 64 bits above this, other than SAIGAGALENA_NO_TALLY, is a refusal: this plus the refusal number. */
 #define SAIGAGALENA_REFUSED UINT64_C(0x100000000)
 
 /* The tally of a public-key, packed or switched ciphertext: none. */
@@ -41,11 +41,11 @@
 #define SAIGAGALENA_PLAINTEXT_MODULUS 7   /* t is below 2 or above 65536 */
 #define SAIGAGALENA_MODULUS_AT_MOST_T 8   /* the modulus is not 0 and at most t */
 #define SAIGAGALENA_KEY_LENGTH 9          /* a key has another length than its dimensions and levels give */
-#define SAIGAGALENA_INPUT_LENGTH 10       /* ciphertexts of the wrong length, or more than n packed messages */
+#define SAIGAGALENA_INPUT_LENGTH 10       /* ciphertexts of the wrong length, more than n packed messages, no such body */
 #define SAIGAGALENA_OUTPUT_LENGTH 11      /* an output has the wrong length */
 #define SAIGAGALENA_LENT_LENGTH 12        /* masks, errors or coefficients have the wrong length */
 #define SAIGAGALENA_BOUND 13              /* E is above 1048576, or not below the modulus */
-#define SAIGAGALENA_WORD_NOT_BELOW_Q 14   /* a word is not below q, or a signed key number not within -q .. q */
+#define SAIGAGALENA_WORD_NOT_BELOW_Q 14   /* a word, or a signed key number's magnitude, is not below q */
 #define SAIGAGALENA_ERROR_OUTSIDE 15      /* an error is outside -E .. E, or a coefficient none of -1, 0, 1 */
 #define SAIGAGALENA_MESSAGE_NOT_BELOW_T 16 /* a message is not below t */
 #define SAIGAGALENA_TALLY 17              /* a tally, given or summed, exceeds 2^32 */
@@ -174,10 +174,12 @@ uint32_t saigagalena_add(uint32_t modulus, size_t n, uint32_t *x, size_t x_len, 
  * SAIGAGALENA_REFUSED + 17. */
 uint64_t saigagalena_add_tally(uint64_t x, uint64_t y);
 
-/* 1 where 2 t * tally + t < q, so that the ciphertext is marked good; else 0; or a refusal by 2, 7, 8, 17. */
+/* 1 where 2 t * tally + t < q, so that the ciphertext is marked good; else 0; or a refusal by 2, 7, 8, 17. The mark counts one
+ * rounding: a good sum of several messages opens to their total where t divides q, so that encodings are exact. */
 uint64_t saigagalena_is_good(uint32_t modulus, uint32_t t, uint64_t tally);
 
-/* Body `index` of a packed ciphertext as a ciphertext of one message. Refuses by 2, 6, 10, 11, 14. */
+/* Body `index` of a packed ciphertext as a ciphertext of one message. Refuses by 2, 6, 10 (also where there is no such
+ * body), 11, 14. */
 uint32_t saigagalena_extract(uint32_t modulus, size_t n, const uint32_t *input, size_t input_len, size_t index, uint32_t *out,
                              size_t out_len);
 
