@@ -1,0 +1,262 @@
+//! One call with all that it is given: what the C service is called with, and the Rust by its side.
+
+#[derive(Clone, Copy, PartialEq, Eq, PartialOrd, Ord, Debug, Default)]
+pub enum Kind {
+    #[default]
+    Basis,
+    Reading,
+    DigitsSingle,
+    Digits,
+    Encode,
+    Decode,
+    EncodeSlice,
+    DecodeSlice,
+    EncryptEncoded,
+    EncryptEncodedSigned,
+    EncryptMessage,
+    EncryptMessageSigned,
+    EncryptMessageBatch,
+    PackEncoded,
+    PackMessage,
+    Phase,
+    PhaseSigned,
+    Message,
+    MessageSigned,
+    PhaseBatch,
+    MessageBatch,
+    PhasePacked,
+    MessagePacked,
+    PublicKey,
+    PublicKeySigned,
+    PublicEncoded,
+    PublicMessage,
+    Extract,
+    Generate,
+    GenerateSigned,
+    Switch,
+    SwitchBatch,
+}
+
+use Kind::*;
+
+impl Kind {
+    pub const ALL: [Kind; 32] = [
+        Basis,
+        Reading,
+        DigitsSingle,
+        Digits,
+        Encode,
+        Decode,
+        EncodeSlice,
+        DecodeSlice,
+        EncryptEncoded,
+        EncryptEncodedSigned,
+        EncryptMessage,
+        EncryptMessageSigned,
+        EncryptMessageBatch,
+        PackEncoded,
+        PackMessage,
+        Phase,
+        PhaseSigned,
+        Message,
+        MessageSigned,
+        PhaseBatch,
+        MessageBatch,
+        PhasePacked,
+        MessagePacked,
+        PublicKey,
+        PublicKeySigned,
+        PublicEncoded,
+        PublicMessage,
+        Extract,
+        Generate,
+        GenerateSigned,
+        Switch,
+        SwitchBatch,
+    ];
+
+    /// Base log and levels.
+    pub fn has_basis(self) -> bool {
+        matches!(self, Basis | Reading | DigitsSingle | Digits) || self.is_switching()
+    }
+    /// An output dimension m beside n.
+    pub fn is_switching(self) -> bool {
+        matches!(self, Generate | GenerateSigned | Switch | SwitchBatch)
+    }
+    pub fn is_codec(self) -> bool {
+        matches!(self, Encode | Decode | EncodeSlice | DecodeSlice)
+    }
+    pub fn has_dimension(self) -> bool {
+        self.is_switching() || !(self.has_basis() || self.is_codec())
+    }
+    /// The input is messages, not words.
+    pub fn takes_messages(self) -> bool {
+        matches!(
+            self,
+            Encode
+                | EncodeSlice
+                | EncryptMessage
+                | EncryptMessageSigned
+                | EncryptMessageBatch
+                | PackMessage
+                | PublicMessage
+        )
+    }
+    /// A plaintext modulus t.
+    pub fn has_t(self) -> bool {
+        self.takes_messages()
+            || matches!(
+                self,
+                Decode | DecodeSlice | Message | MessageSigned | MessageBatch | MessagePacked
+            )
+    }
+    /// An error bound E.
+    pub fn has_bound(self) -> bool {
+        self.has_dimension() && !matches!(self, Extract | Switch | SwitchBatch)
+    }
+    /// The secret is signed numbers.
+    pub fn is_signed(self) -> bool {
+        matches!(
+            self,
+            EncryptEncodedSigned
+                | EncryptMessageSigned
+                | PhaseSigned
+                | MessageSigned
+                | PublicKeySigned
+                | GenerateSigned
+        )
+    }
+    /// The answer is a number, so there is no output to have a length.
+    pub fn answers_a_number(self) -> bool {
+        matches!(
+            self,
+            Encode | Decode | Phase | PhaseSigned | Message | MessageSigned
+        )
+    }
+}
+
+#[derive(Clone, Debug, Default)]
+pub struct Call {
+    pub kind: Kind,
+    /// 0 stands for 2^32.
+    pub modulus: u32,
+    pub base_log: u32,
+    /// 0 is left open.
+    pub levels: u32,
+    pub n: usize,
+    pub m: usize,
+    pub t: u32,
+    pub bound: u32,
+    pub centered: bool,
+    /// Words, or signed numbers in two's complement.
+    pub secret: Vec<u32>,
+    pub output_key: Vec<u32>,
+    /// A public key or a switching key.
+    pub key: Vec<u32>,
+    pub masks: Vec<u32>,
+    pub errors: Vec<i32>,
+    pub coefficients: Vec<i32>,
+    /// Words, messages or ciphertexts; a call of one number has it alone.
+    pub input: Vec<u32>,
+    /// The body that a sample is taken of.
+    pub index: usize,
+    pub out_len: usize,
+}
+
+impl Call {
+    pub fn q(&self) -> u64 {
+        match self.modulus {
+            0 => 1 << 32,
+            q => q as u64,
+        }
+    }
+    pub fn explicit(&self) -> Option<u32> {
+        (self.modulus != 0).then_some(self.modulus)
+    }
+    pub fn numbers(&self) -> Vec<i32> {
+        self.secret.iter().map(|&w| w as i32).collect()
+    }
+    /// The one number of a call that takes one.
+    pub fn value(&self) -> u32 {
+        self.input[0]
+    }
+    /// How large the call is: for the smallest of its sort.
+    pub fn size(&self) -> u64 {
+        let runs = [
+            &self.secret,
+            &self.output_key,
+            &self.key,
+            &self.masks,
+            &self.input,
+        ];
+        let words: u64 = runs.iter().flat_map(|run| run.iter()).map(|&w| w as u64).sum();
+        let lent = self.errors.iter().chain(&self.coefficients);
+        let lent: u64 = lent.map(|e| e.unsigned_abs() as u64).sum();
+        let lengths: usize = runs.iter().map(|run| run.len()).sum();
+        let parameters = self.q() / 4 + (self.base_log + self.levels) as u64 + self.n as u64 + self.m as u64;
+        words + lent + 4 * (lengths + self.errors.len() + self.out_len) as u64
+            + parameters
+            + self.t as u64
+            + self.bound as u64
+    }
+}
+
+impl std::fmt::Display for Call {
+    /// What the call takes, and nothing else.
+    fn fmt(&self, f: &mut std::fmt::Formatter<'_>) -> std::fmt::Result {
+        write!(f, "{:?} q {}", self.kind, self.modulus)?;
+        let kind = self.kind;
+        let numbers = [
+            ("base log", kind.has_basis(), self.base_log as usize),
+            ("levels", kind.has_basis(), self.levels as usize),
+            ("n", kind.has_dimension(), self.n),
+            ("m", kind.is_switching(), self.m),
+            ("t", kind.has_t(), self.t as usize),
+            ("centered", kind.takes_messages(), self.centered as usize),
+            ("E", kind.has_bound(), self.bound as usize),
+            ("index", kind == Extract, self.index),
+        ];
+        for (name, _, number) in numbers.iter().filter(|row| row.1) {
+            write!(f, " {name} {number}")?;
+        }
+        if kind.is_signed() {
+            write!(f, " secret {:?}", self.numbers())?;
+        } else {
+            run(f, "secret", &self.secret)?;
+        }
+        run(f, "output key", &self.output_key)?;
+        run(f, "key", &self.key)?;
+        run(f, "masks", &self.masks)?;
+        run(f, "errors", &self.errors)?;
+        run(f, "coefficients", &self.coefficients)?;
+        run(f, "input", &self.input)?;
+        if kind.answers_a_number() {
+            return Ok(());
+        }
+        write!(f, " output of {}", self.out_len)
+    }
+}
+
+fn run<T: std::fmt::Debug>(
+    f: &mut std::fmt::Formatter<'_>,
+    name: &str,
+    words: &[T],
+) -> std::fmt::Result {
+    if words.is_empty() {
+        return Ok(());
+    }
+    write!(f, " {name} {words:?}")
+}
+
+/// What a side did with a call.
+#[derive(Clone, PartialEq, Eq, Debug)]
+pub enum Said {
+    Words(Vec<u32>),
+    /// A number of document 01; the Rust's errors stand for the nearest.
+    Refused(u32),
+    Panicked,
+    /// Lent numbers were left over.
+    LeftOver,
+    /// Refused, but the output was written.
+    Spoiled(u32),
+}

@@ -1,0 +1,67 @@
+//! One call on both sides.
+
+use crate::checks::{self, Check};
+use crate::classes::{self, Does};
+use crate::proved;
+use supplied::call::{Call, Said};
+use supplied::rust;
+
+pub enum Outcome {
+    /// Both gave these words.
+    Same(usize),
+    /// The proved library gave 01's number; what the Rust did, where it could be asked.
+    Refused(Vec<Check>, Option<Does>),
+    Differs(String),
+}
+
+/// The numbers that an error of the Rust may stand for: 2 has none of its own.
+fn stands_for(error: u32, checks: &[Check]) -> bool {
+    let low = matches!(error, 3 | 8) && checks.contains(&Check::ModulusBelow4);
+    low || checks.iter().any(|check| check.number() == error)
+}
+
+fn allowed(call: &Call, checks: &[Check], said: &Said) -> bool {
+    let does = classes::done(said);
+    let right = match said {
+        Said::Refused(error) => stands_for(*error, checks),
+        _ => true,
+    };
+    right
+        && checks.iter().any(|&check| {
+            classes::allowed(call.kind, check).is_some_and(|these| these.contains(&does))
+        })
+}
+
+/// A call that 01 refuses by the first of these checks.
+pub fn refusals(call: &Call, checks: Vec<Check>, proved: Said, rust: impl Fn(&Call) -> Said) -> Outcome {
+    let number = checks[0].number();
+    if proved != Said::Refused(number) {
+        return Outcome::Differs(format!("01 refuses by {number} ({checks:?}), the library: {proved:?}"));
+    }
+    if checks.iter().any(|&check| classes::allowed(call.kind, check).is_none()) {
+        return Outcome::Refused(checks, None);
+    }
+    let said = rust(call);
+    if !allowed(call, &checks, &said) {
+        return Outcome::Differs(format!("01 refuses ({checks:?}), the Rust: {said:?}"));
+    }
+    Outcome::Refused(checks, Some(classes::done(&said)))
+}
+
+/// A call that 01 accepts.
+pub fn answers(proved: Said, rust: Said) -> Outcome {
+    match (proved, rust) {
+        (Said::Words(ours), Said::Words(theirs)) if ours == theirs => Outcome::Same(ours.len()),
+        (ours, theirs) => Outcome::Differs(format!("the library: {ours:?}\n  the Rust: {theirs:?}")),
+    }
+}
+
+pub fn compare(call: &Call) -> Outcome {
+    let checks = checks::applying(call);
+    let proved = proved::said(call);
+    if checks.is_empty() {
+        answers(proved, rust::said(call))
+    } else {
+        refusals(call, checks, proved, rust::said)
+    }
+}

@@ -1,0 +1,64 @@
+//! The supplied Rust and the proved library in one process, on the same operands.
+//!
+//!     random SEED [CALLS]     everything small, then CALLS random calls (1,500,000), a third of them to be refused
+//!     random faults SEED      plants faults and says whether each is noticed
+
+mod checks;
+mod classes;
+mod compare;
+mod draw;
+mod faults;
+mod proved;
+mod report;
+mod small;
+
+use draw::Draw;
+use report::Report;
+use supplied::call::Kind;
+
+fn random(report: &mut Report, seed: u64, calls: u64) {
+    let mut draw = Draw(seed);
+    for _ in 0..calls {
+        let kind = draw.choose(&Kind::ALL);
+        let call = if draw.one_in(3) {
+            draw::refused(&mut draw, kind)
+        } else {
+            draw::accepted(&mut draw, kind)
+        };
+        report.add(&call, compare::compare(&call));
+    }
+}
+
+fn number(word: Option<String>, or: u64) -> u64 {
+    match word {
+        None => or,
+        Some(word) => word.parse().unwrap_or_else(|_| {
+            eprintln!("usage: random SEED [CALLS] | random faults SEED");
+            std::process::exit(2)
+        }),
+    }
+}
+
+fn main() {
+    supplied::rust::quiet();
+    let mut words = std::env::args().skip(1);
+    let first = words.next();
+    if first.as_deref() == Some("faults") {
+        std::process::exit(faults::all_noticed(number(words.next(), 1)));
+    }
+    let seed = number(first, 1);
+    let calls = number(words.next(), 1_500_000);
+    let mut report = Report::default();
+    small::everything(&mut report, seed);
+    report.print("everything small");
+    let exhaustive = report.calls();
+    random(&mut report, seed, calls);
+    report.print(&format!("with {calls} random calls, seed {seed}"));
+    report.print_refusals();
+    println!(
+        "{} calls compared: {exhaustive} of everything small, {calls} random; {} different",
+        report.calls(),
+        report.different
+    );
+    std::process::exit((report.different != 0) as i32);
+}
