@@ -126,6 +126,55 @@ impl Kind {
                 | GenerateSigned
         )
     }
+    /// A public key or a switching key.
+    pub fn has_key(self) -> bool {
+        matches!(self, PublicEncoded | PublicMessage | Switch | SwitchBatch)
+    }
+    pub fn has_secret(self) -> bool {
+        self.has_bound() && !self.has_key()
+    }
+    /// Phases and messages of ciphertexts.
+    pub fn opens(self) -> bool {
+        matches!(
+            self,
+            Phase
+                | PhaseSigned
+                | Message
+                | MessageSigned
+                | PhaseBatch
+                | MessageBatch
+                | PhasePacked
+                | MessagePacked
+        )
+    }
+    /// Lent errors.
+    pub fn has_errors(self) -> bool {
+        self.has_bound() && !self.opens()
+    }
+    /// The input is one number.
+    pub fn takes_one_number(self) -> bool {
+        matches!(
+            self,
+            Reading
+                | DigitsSingle
+                | Encode
+                | Decode
+                | EncryptEncoded
+                | EncryptEncodedSigned
+                | EncryptMessage
+                | EncryptMessageSigned
+                | PublicEncoded
+                | PublicMessage
+        )
+    }
+    /// The input is a run.
+    pub fn takes_a_run(self) -> bool {
+        !self.takes_one_number()
+            && !matches!(
+                self,
+                Basis | PublicKey | PublicKeySigned | Generate | GenerateSigned
+            )
+    }
     /// The answer is a number, so there is no output to have a length.
     pub fn answers_a_number(self) -> bool {
         matches!(
@@ -181,7 +230,7 @@ impl Call {
         self.input[0]
     }
     /// How large the call is: for the smallest of its sort.
-    pub fn size(&self) -> u64 {
+    pub fn size(&self) -> u128 {
         let runs = [
             &self.secret,
             &self.output_key,
@@ -189,15 +238,15 @@ impl Call {
             &self.masks,
             &self.input,
         ];
-        let words: u64 = runs.iter().flat_map(|run| run.iter()).map(|&w| w as u64).sum();
+        let words = runs.iter().flat_map(|run| run.iter()).map(|&w| w as u128 + 4);
         let lent = self.errors.iter().chain(&self.coefficients);
-        let lent: u64 = lent.map(|e| e.unsigned_abs() as u64).sum();
-        let lengths: usize = runs.iter().map(|run| run.len()).sum();
-        let parameters = self.q() / 4 + (self.base_log + self.levels) as u64 + self.n as u64 + self.m as u64;
-        words + lent + 4 * (lengths + self.errors.len() + self.out_len) as u64
-            + parameters
-            + self.t as u64
-            + self.bound as u64
+        let lent = lent.map(|e| e.unsigned_abs() as u128 + 4);
+        let numbers = [self.base_log, self.levels, self.t, self.bound];
+        let numbers = numbers.iter().map(|&x| x as u128);
+        let sizes = [self.n, self.m, self.index, self.out_len];
+        let sizes = sizes.iter().map(|&x| x as u128);
+        let q = self.q() as u128;
+        q + words.chain(lent).chain(numbers).chain(sizes).sum::<u128>()
     }
 }
 

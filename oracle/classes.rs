@@ -23,6 +23,13 @@ pub fn done(said: &Said) -> Does {
     }
 }
 
+/// To a raw view of a key the key's length is the dimension: a wrong key and a wrong ciphertext may fit each other.
+pub fn fit_each_other(kind: Kind, checks: &[Check]) -> bool {
+    matches!(kind, Kind::Phase | Kind::PhaseSigned | Kind::MessageSigned)
+        && checks.contains(&SecretLength)
+        && checks.contains(&InputLength)
+}
+
 /// What the Rust may do with a call of this kind to which the check applies; `None` where it cannot be asked.
 pub fn allowed(kind: Kind, check: Check) -> Option<&'static [Does]> {
     Some(match check {
@@ -31,7 +38,9 @@ pub fn allowed(kind: Kind, check: Check) -> Option<&'static [Does]> {
         // The kinds of a basis need q ≥ B ≥ 4; a codec needs q > t; nothing else looks at q.
         ModulusBelow4 if kind.has_basis() => &[Errs],
         ModulusBelow4 if kind.has_t() => &[Errs, Answers],
-        ModulusBelow4 | PlaintextModulusAbove65536 | DimensionAbove2048 => &[Answers],
+        ModulusBelow4 | PlaintextModulusAbove65536 => &[Answers],
+        // Its own limit is usize::MAX − 1.
+        DimensionAbove2048 => &[Answers, Errs],
         DimensionZero => dimension_zero(kind),
         SecretLength => return secret_length(kind),
         OutputKeyLength => &[Panics],
@@ -57,8 +66,11 @@ fn dimension_zero(kind: Kind) -> &'static [Does] {
     use Kind::*;
     match kind {
         EncryptMessage | EncryptMessageBatch | PackEncoded | PackMessage | Message | MessageBatch
-        | MessagePacked | PublicKey | PublicKeySigned | PublicEncoded | PublicMessage => &[Errs],
-        Generate | GenerateSigned | Switch | SwitchBatch => &[Errs, Panics],
+        | MessagePacked | PublicKey | PublicKeySigned | PublicEncoded | PublicMessage | Switch
+        | SwitchBatch => &[Errs],
+        Generate | GenerateSigned => &[Errs, Panics],
+        // An index of 1 rotates nothing.
+        Extract => &[Answers, Panics],
         _ => &[Answers],
     }
 }

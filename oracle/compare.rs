@@ -26,10 +26,10 @@ fn allowed(call: &Call, checks: &[Check], said: &Said) -> bool {
         Said::Refused(error) => stands_for(*error, checks),
         _ => true,
     };
+    let by = |check| classes::allowed(call.kind, check).is_some_and(|these| these.contains(&does));
     right
-        && checks.iter().any(|&check| {
-            classes::allowed(call.kind, check).is_some_and(|these| these.contains(&does))
-        })
+        && (checks.iter().any(|&check| by(check))
+            || does == Does::Answers && classes::fit_each_other(call.kind, checks))
 }
 
 /// A call that 01 refuses by the first of these checks.

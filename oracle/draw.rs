@@ -198,18 +198,10 @@ pub fn sized(draw: &mut Draw, kind: Kind, n: usize) -> Call {
         }
         Kind::Extract => fill_extract(draw, &mut call),
         _ if kind.is_switching() => fill_switching(draw, &mut call),
-        _ if opens(kind) => fill_opening(draw, &mut call),
+        _ if kind.opens() => fill_opening(draw, &mut call),
         _ => fill_encryption(draw, &mut call),
     }
     call
-}
-
-fn opens(kind: Kind) -> bool {
-    use Kind::*;
-    matches!(
-        kind,
-        Phase | PhaseSigned | Message | MessageSigned | PhaseBatch | MessageBatch | PhasePacked | MessagePacked
-    )
 }
 
 fn levels(call: &Call) -> usize {
@@ -341,23 +333,28 @@ fn damage(draw: &mut Draw, call: &mut Call) {
     }
 }
 
-/// One too many, one too few, none, or (of a packed ciphertext) more than n bodies.
+/// The runs of words that a call takes.
+fn runs(call: &mut Call) -> Vec<&mut Vec<u32>> {
+    let kind = call.kind;
+    let runs = [
+        (kind.has_secret(), &mut call.secret),
+        (kind.is_switching() && kind.has_bound(), &mut call.output_key),
+        (kind.has_key(), &mut call.key),
+        (kind.has_errors() && !kind.has_key(), &mut call.masks),
+        (kind.takes_a_run(), &mut call.input),
+    ];
+    runs.into_iter().filter(|row| row.0).map(|row| row.1).collect()
+}
+
+/// One too many, one too few, many more, none.
 fn damage_length(draw: &mut Draw, call: &mut Call) {
     let more = 2 * call.n.min(64) + 1;
-    let one_number = matches!(call.kind, Kind::Reading | Kind::Encode | Kind::Decode)
-        || call.kind.has_bound() && !opens(call.kind) && call.input.len() == 1;
-    let run = match draw.below(6) {
-        0 => &mut call.secret,
-        1 => &mut call.output_key,
-        2 => &mut call.key,
-        3 => &mut call.masks,
-        4 => return damage_lent(draw, call),
-        _ if one_number => return,
-        _ => &mut call.input,
-    };
-    if run.is_empty() && draw.one_in(2) {
-        return;
+    let mut runs = runs(call);
+    if runs.is_empty() || draw.one_in(4) {
+        return damage_lent(draw, call);
     }
+    let chosen = draw.below(runs.len() as u64) as usize;
+    let run = &mut runs[chosen];
     match draw.below(4) {
         0 => run.push(0),
         1 => run.truncate(run.len().saturating_sub(1)),
@@ -368,8 +365,9 @@ fn damage_length(draw: &mut Draw, call: &mut Call) {
 
 fn damage_lent(draw: &mut Draw, call: &mut Call) {
     let run = match draw.below(2) {
-        0 => &mut call.errors,
-        _ => &mut call.coefficients,
+        0 if call.kind.has_errors() => &mut call.errors,
+        _ if call.kind.has_errors() && call.kind.has_key() => &mut call.coefficients,
+        _ => return,
     };
     match draw.below(2) {
         0 => run.push(0),

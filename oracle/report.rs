@@ -18,7 +18,7 @@ struct Counts {
 /// How often the Rust did this, and the smallest call.
 struct Seen {
     count: u64,
-    size: u64,
+    size: u128,
     call: String,
 }
 
@@ -54,7 +54,7 @@ impl Report {
     fn see(&mut self, check: Check, does: Option<Does>, call: &Call) {
         let seen = self.refusals.entry((check, does)).or_insert(Seen {
             count: 0,
-            size: u64::MAX,
+            size: u128::MAX,
             call: String::new(),
         });
         seen.count += 1;

@@ -438,8 +438,10 @@ fn generated<M: RingContext<u32>>(call: &Call, modulus: M) -> Answer {
     Ok(key.as_slice().to_vec())
 }
 
-/// The key is loaded as in `public_encrypted`.
+/// The key is loaded as in `public_encrypted`; it has dimensions, so none of 0.
 fn switched<M: RingContext<u32>>(call: &Call, modulus: M) -> Answer {
+    dimension(call.n)?;
+    dimension(call.m)?;
     let (input, target) = (vec![0; call.n], vec![0; call.m]);
     let rows = Lent::rows(&call.key, call.m + 1);
     let key = switching_key(call, LweSecretKeyRef::Encoded(&input), &target, rows, modulus)?;
