@@ -238,7 +238,10 @@ impl Call {
             &self.masks,
             &self.input,
         ];
-        let words = runs.iter().flat_map(|run| run.iter()).map(|&w| w as u128 + 4);
+        let words = runs
+            .iter()
+            .flat_map(|run| run.iter())
+            .map(|&w| w as u128 + 4);
         let lent = self.errors.iter().chain(&self.coefficients);
         let lent = lent.map(|e| e.unsigned_abs() as u128 + 4);
         let numbers = [self.base_log, self.levels, self.t, self.bound];

@@ -171,13 +171,20 @@ fn basis_checks(call: &Call) -> Vec<(Check, bool)> {
     vec![
         (BaseLogBelow2, log < 2),
         (BaseLogAbove31, log > 31),
-        (ModulusBelowBase, below_base || call.modulus != 0 && log >= 64),
+        (
+            ModulusBelowBase,
+            below_base || call.modulus != 0 && log >= 64,
+        ),
         (LevelsAboveFull, call.levels > full_levels(call)),
     ]
 }
 
 fn dimension_checks(call: &Call) -> Vec<(Check, bool)> {
-    let second = if call.kind.is_switching() { call.m } else { call.n };
+    let second = if call.kind.is_switching() {
+        call.m
+    } else {
+        call.n
+    };
     vec![
         (DimensionZero, call.n == 0 || second == 0),
         (DimensionAbove2048, call.n > 2048 || second > 2048),
@@ -204,8 +211,12 @@ fn input_checks(call: &Call) -> Vec<(Check, bool)> {
     use Kind::*;
     let (n, count) = (call.n as u128, call.input.len() as u128);
     match call.kind {
-        Phase | PhaseSigned | Message | MessageSigned | Switch => vec![(InputLength, count != n + 1)],
-        PhaseBatch | MessageBatch | SwitchBatch => vec![(InputLength, !count.is_multiple_of(n + 1))],
+        Phase | PhaseSigned | Message | MessageSigned | Switch => {
+            vec![(InputLength, count != n + 1)]
+        }
+        PhaseBatch | MessageBatch | SwitchBatch => {
+            vec![(InputLength, !count.is_multiple_of(n + 1))]
+        }
         PackEncoded | PackMessage => vec![(PackedCount, count > n)],
         PhasePacked | MessagePacked => vec![(InputLength, count < n), (PackedCount, count > 2 * n)],
         Extract => vec![
@@ -222,30 +233,43 @@ fn length_checks(call: &Call) -> Vec<(Check, bool)> {
     let number = call.kind.answers_a_number();
     vec![
         (SecretLength, call.secret.len() as u128 != wanted.secret),
-        (OutputKeyLength, call.output_key.len() as u128 != wanted.output_key),
+        (
+            OutputKeyLength,
+            call.output_key.len() as u128 != wanted.output_key,
+        ),
         (KeyLength, call.key.len() as u128 != wanted.key),
         (OutputLength, !number && call.out_len as u128 != wanted.out),
         (MaskLength, call.masks.len() as u128 != wanted.masks),
         (ErrorLength, call.errors.len() as u128 != wanted.errors),
-        (CoefficientLength, call.coefficients.len() as u128 != wanted.coefficients),
+        (
+            CoefficientLength,
+            call.coefficients.len() as u128 != wanted.coefficients,
+        ),
     ]
 }
 
 fn number_checks(call: &Call) -> Vec<(Check, bool)> {
     let q = call.q();
     let above = |words: &[u32]| words.iter().any(|&w| w as u64 >= q);
-    let outside = |numbers: &[i32], most: u64| numbers.iter().any(|c| c.unsigned_abs() as u64 > most);
+    let outside =
+        |numbers: &[i32], most: u64| numbers.iter().any(|c| c.unsigned_abs() as u64 > most);
     let (signed, messages) = (call.kind.is_signed(), call.kind.takes_messages());
     vec![
         (SecretWord, !signed && above(&call.secret)),
-        (SecretNumber, signed && call.q() > 0 && outside(&call.numbers(), q - 1)),
+        (
+            SecretNumber,
+            signed && call.q() > 0 && outside(&call.numbers(), q - 1),
+        ),
         (OutputKeyWord, above(&call.output_key)),
         (KeyWord, above(&call.key)),
         (MaskWord, above(&call.masks)),
         (InputWord, !messages && above(&call.input)),
         (ErrorOutside, outside(&call.errors, call.bound as u64)),
         (CoefficientOutside, outside(&call.coefficients, 1)),
-        (MessageNotBelowT, messages && call.input.iter().any(|&m| m >= call.t)),
+        (
+            MessageNotBelowT,
+            messages && call.input.iter().any(|&m| m >= call.t),
+        ),
     ]
 }
 

@@ -57,7 +57,9 @@ pub fn allowed(kind: Kind, check: Check) -> Option<&'static [Does]> {
         InputWord => input_word(kind),
         MessageNotBelowT => &[Panics],
         // Keys come from `generate` alone, and a generator hands out what is asked for.
-        KeyLength | KeyWord | MaskLength | ErrorLength | CoefficientLength | CoefficientOutside => return None,
+        KeyLength | KeyWord | MaskLength | ErrorLength | CoefficientLength | CoefficientOutside => {
+            return None;
+        }
     })
 }
 
@@ -65,9 +67,9 @@ pub fn allowed(kind: Kind, check: Check) -> Option<&'static [Does]> {
 fn dimension_zero(kind: Kind) -> &'static [Does] {
     use Kind::*;
     match kind {
-        EncryptMessage | EncryptMessageBatch | PackEncoded | PackMessage | Message | MessageBatch
-        | MessagePacked | PublicKey | PublicKeySigned | PublicEncoded | PublicMessage | Switch
-        | SwitchBatch => &[Errs],
+        EncryptMessage | EncryptMessageBatch | PackEncoded | PackMessage | Message
+        | MessageBatch | MessagePacked | PublicKey | PublicKeySigned | PublicEncoded
+        | PublicMessage | Switch | SwitchBatch => &[Errs],
         Generate | GenerateSigned => &[Errs, Panics],
         // An index of 1 rotates nothing.
         Extract => &[Answers, Panics],
@@ -101,7 +103,9 @@ fn output_length(kind: Kind) -> &'static [Does] {
     use Kind::*;
     match kind {
         Basis | Reading | DigitsSingle | PackEncoded | PackMessage | PhaseBatch | PhasePacked
-        | MessagePacked | PublicKey | PublicKeySigned | Extract | Generate | GenerateSigned => &[Answers],
+        | MessagePacked | PublicKey | PublicKeySigned | Extract | Generate | GenerateSigned => {
+            &[Answers]
+        }
         // One level at a time: a run of another length panics in debug builds.
         Digits => &[Panics, Answers],
         _ => &[Panics],

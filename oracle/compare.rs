@@ -33,12 +33,22 @@ fn allowed(call: &Call, checks: &[Check], said: &Said) -> bool {
 }
 
 /// A call that 01 refuses by the first of these checks.
-pub fn refusals(call: &Call, checks: Vec<Check>, proved: Said, rust: impl Fn(&Call) -> Said) -> Outcome {
+pub fn refusals(
+    call: &Call,
+    checks: Vec<Check>,
+    proved: Said,
+    rust: impl Fn(&Call) -> Said,
+) -> Outcome {
     let number = checks[0].number();
     if proved != Said::Refused(number) {
-        return Outcome::Differs(format!("01 refuses by {number} ({checks:?}), the library: {proved:?}"));
+        return Outcome::Differs(format!(
+            "01 refuses by {number} ({checks:?}), the library: {proved:?}"
+        ));
     }
-    if checks.iter().any(|&check| classes::allowed(call.kind, check).is_none()) {
+    if checks
+        .iter()
+        .any(|&check| classes::allowed(call.kind, check).is_none())
+    {
         return Outcome::Refused(checks, None);
     }
     let said = rust(call);
@@ -52,7 +62,9 @@ pub fn refusals(call: &Call, checks: Vec<Check>, proved: Said, rust: impl Fn(&Ca
 pub fn answers(proved: Said, rust: Said) -> Outcome {
     match (proved, rust) {
         (Said::Words(ours), Said::Words(theirs)) if ours == theirs => Outcome::Same(ours.len()),
-        (ours, theirs) => Outcome::Differs(format!("the library: {ours:?}\n  the Rust: {theirs:?}")),
+        (ours, theirs) => {
+            Outcome::Differs(format!("the library: {ours:?}\n  the Rust: {theirs:?}"))
+        }
     }
 }
 

@@ -29,7 +29,16 @@ impl Draw {
     }
 }
 
-const PRIMES: [u32; 8] = [17, 97, 257, 12289, 65537, 1_000_003, 2_147_483_647, 4_294_967_291];
+const PRIMES: [u32; 8] = [
+    17,
+    97,
+    257,
+    12289,
+    65537,
+    1_000_003,
+    2_147_483_647,
+    4_294_967_291,
+];
 const LIMIT: u64 = 1 << 20;
 
 fn modulus(draw: &mut Draw) -> u32 {
@@ -132,7 +141,9 @@ fn secret(draw: &mut Draw, call: &Call) -> Vec<u32> {
 }
 
 fn errors(draw: &mut Draw, call: &Call, count: usize) -> Vec<i32> {
-    (0..count).map(|_| signed(draw, call.bound as i64)).collect()
+    (0..count)
+        .map(|_| signed(draw, call.bound as i64))
+        .collect()
 }
 
 fn messages(draw: &mut Draw, call: &Call, count: usize) -> Vec<u32> {
@@ -155,7 +166,11 @@ fn plaintexts(draw: &mut Draw, call: &Call, count: usize) -> Vec<u32> {
 /// Rows of a batch: none, and about a tile of eight.
 fn rows(draw: &mut Draw, call: &Call) -> usize {
     let count = draw.choose(&[0, 1, 2, 3, 7, 8, 9, 17]);
-    if call.n > 64 || call.m > 64 { count.min(2) } else { count }
+    if call.n > 64 || call.m > 64 {
+        count.min(2)
+    } else {
+        count
+    }
 }
 
 /// The plain numbers of an accepted call.
@@ -164,7 +179,11 @@ fn parameters(draw: &mut Draw, kind: Kind, n: usize) -> Call {
         kind,
         modulus: modulus(draw),
         n,
-        m: if n > 64 { draw.between(1, 4) as usize } else { dimension(draw, kind).min(64) },
+        m: if n > 64 {
+            draw.between(1, 4) as usize
+        } else {
+            dimension(draw, kind).min(64)
+        },
         centered: draw.one_in(2),
         ..Call::default()
     };
@@ -325,7 +344,9 @@ fn damage(draw: &mut Draw, call: &mut Call) {
         7 => call.t = (q + draw.below(2)).min(u32::MAX as u64) as u32,
         8 | 9 => damage_length(draw, call),
         10 => call.out_len = draw.choose(&[call.out_len + 1, call.out_len.saturating_sub(1), 0]),
-        11 => call.bound = draw.choose(&[LIMIT as u32 + 1, u32::MAX, q.min(u32::MAX as u64) as u32]),
+        11 => {
+            call.bound = draw.choose(&[LIMIT as u32 + 1, u32::MAX, q.min(u32::MAX as u64) as u32])
+        }
         12..15 => damage_word(draw, call),
         15 => damage_error(draw, call),
         16 => call.index = draw.choose(&[call.input.len().saturating_sub(call.n), usize::MAX]),
@@ -338,12 +359,18 @@ fn runs(call: &mut Call) -> Vec<&mut Vec<u32>> {
     let kind = call.kind;
     let runs = [
         (kind.has_secret(), &mut call.secret),
-        (kind.is_switching() && kind.has_bound(), &mut call.output_key),
+        (
+            kind.is_switching() && kind.has_bound(),
+            &mut call.output_key,
+        ),
         (kind.has_key(), &mut call.key),
         (kind.has_errors() && !kind.has_key(), &mut call.masks),
         (kind.takes_a_run(), &mut call.input),
     ];
-    runs.into_iter().filter(|row| row.0).map(|row| row.1).collect()
+    runs.into_iter()
+        .filter(|row| row.0)
+        .map(|row| row.1)
+        .collect()
 }
 
 /// One too many, one too few, many more, none.
@@ -426,7 +453,10 @@ fn damage_message(draw: &mut Draw, call: &mut Call) {
 
 /// Dimensions past their limits, with all lengths as they have to be.
 fn beyond(draw: &mut Draw, kind: Kind) -> Call {
-    let square = matches!(kind, Kind::PublicKey | Kind::PublicKeySigned | Kind::PublicEncoded | Kind::PublicMessage);
+    let square = matches!(
+        kind,
+        Kind::PublicKey | Kind::PublicKeySigned | Kind::PublicEncoded | Kind::PublicMessage
+    );
     let n = if square || !draw.one_in(50) { 0 } else { 2049 };
     sized(draw, kind, n)
 }

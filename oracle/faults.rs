@@ -22,6 +22,7 @@ struct Fault {
 fn as_it_is(_: &mut Call) {}
 fn as_said(_: &mut Vec<u32>) {}
 
+#[rustfmt::skip]
 const FAULTS: [Fault; 12] = [
     Fault { name: "the lowest bit of the last word", kinds: &Kind::ALL, given: as_it_is, said: flip },
     Fault { name: "a word missing", kinds: &Kind::ALL, given: as_it_is, said: |words| words.truncate(words.len().saturating_sub(1)) },
@@ -72,7 +73,10 @@ fn noticed(seed: u64, mut differs: impl FnMut(&mut Draw) -> bool) -> Option<u64>
 fn answer_differs(fault: &Fault, draw: &mut Draw) -> bool {
     let kind = draw.choose(fault.kinds);
     let call = accepted(draw, kind);
-    matches!(answers(proved::said(&call), planted(fault, &call)), Outcome::Differs(_))
+    matches!(
+        answers(proved::said(&call), planted(fault, &call)),
+        Outcome::Differs(_)
+    )
 }
 
 /// The last of the checks that apply taken for the first: 01's order upset.
@@ -81,7 +85,10 @@ fn order_differs(draw: &mut Draw) -> bool {
     let call = refused(draw, kind);
     let mut checks = checks::applying(&call);
     checks.reverse();
-    matches!(refusals(&call, checks, proved::said(&call), rust::said), Outcome::Differs(_))
+    matches!(
+        refusals(&call, checks, proved::said(&call), rust::said),
+        Outcome::Differs(_)
+    )
 }
 
 /// A Rust that accepts what it refuses.
@@ -90,7 +97,10 @@ fn acceptance_differs(draw: &mut Draw) -> bool {
     let call = refused(draw, kind);
     let checks = checks::applying(&call);
     let accepting = |_: &Call| Said::Words(vec![]);
-    matches!(refusals(&call, checks, proved::said(&call), accepting), Outcome::Differs(_))
+    matches!(
+        refusals(&call, checks, proved::said(&call), accepting),
+        Outcome::Differs(_)
+    )
 }
 
 fn say(name: &str, after: Option<u64>) -> bool {
@@ -105,10 +115,23 @@ fn say(name: &str, after: Option<u64>) -> bool {
 pub fn all_noticed(seed: u64) -> i32 {
     let mut all = true;
     for fault in &FAULTS {
-        all &= say(fault.name, noticed(seed, |draw| answer_differs(fault, draw)));
+        all &= say(
+            fault.name,
+            noticed(seed, |draw| answer_differs(fault, draw)),
+        );
     }
     all &= say("01's order of refusals upset", noticed(seed, order_differs));
-    all &= say("a Rust that accepts everything", noticed(seed, acceptance_differs));
-    println!("{}", if all { "all faults noticed" } else { "a fault was missed" });
+    all &= say(
+        "a Rust that accepts everything",
+        noticed(seed, acceptance_differs),
+    );
+    println!(
+        "{}",
+        if all {
+            "all faults noticed"
+        } else {
+            "a fault was missed"
+        }
+    );
     !all as i32
 }

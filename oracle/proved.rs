@@ -92,7 +92,14 @@ fn reading(c: &Call) -> Said {
     let word = c.value();
     // SAFETY: the output is one run, lent while the function runs.
     let number = unsafe {
-        saigagalena_reading(c.modulus, c.base_log, c.levels, word, out.as_mut_ptr(), out.len())
+        saigagalena_reading(
+            c.modulus,
+            c.base_log,
+            c.levels,
+            word,
+            out.as_mut_ptr(),
+            out.len(),
+        )
     };
     if number != 0 && out.iter().any(|&x| x != fill) {
         return Said::Spoiled(number);
@@ -108,16 +115,31 @@ fn basis_call(c: &Call) -> Said {
     match c.kind {
         Kind::Basis => basis(c),
         Kind::Reading => reading(c),
-        _ => writing!(c, saigagalena_decompose, [c.modulus, c.base_log, c.levels], [input]),
+        _ => writing!(
+            c,
+            saigagalena_decompose,
+            [c.modulus, c.base_log, c.levels],
+            [input]
+        ),
     }
 }
 
 fn codec_call(c: &Call) -> Said {
     let centered = c.centered as u32;
     match c.kind {
-        Kind::Encode => answering!(c, saigagalena_encode, [c.modulus, c.t, centered, c.value()], []),
+        Kind::Encode => answering!(
+            c,
+            saigagalena_encode,
+            [c.modulus, c.t, centered, c.value()],
+            []
+        ),
         Kind::Decode => answering!(c, saigagalena_decode, [c.modulus, c.t, c.value()], []),
-        Kind::EncodeSlice => writing!(c, saigagalena_encode_slice, [c.modulus, c.t, centered], [input]),
+        Kind::EncodeSlice => writing!(
+            c,
+            saigagalena_encode_slice,
+            [c.modulus, c.t, centered],
+            [input]
+        ),
         _ => writing!(c, saigagalena_decode_slice, [c.modulus, c.t], [input]),
     }
 }
@@ -125,13 +147,52 @@ fn codec_call(c: &Call) -> Said {
 fn encryption_call(c: &Call) -> Said {
     let (q, n, t, bound, centered) = (c.modulus, c.n, c.t, c.bound, c.centered as u32);
     match c.kind {
-        Kind::EncryptEncoded => writing!(c, saigagalena_encrypt_encoded, [q, n, bound], [secret, masks, errors], c.value()),
-        Kind::EncryptEncodedSigned => writing!(c, saigagalena_encrypt_encoded_signed, [q, n, bound], [secret, masks, errors], c.value()),
-        Kind::EncryptMessage => writing!(c, saigagalena_encrypt_message, [q, n, t, bound, centered], [secret, masks, errors], c.value()),
-        Kind::EncryptMessageSigned => writing!(c, saigagalena_encrypt_message_signed, [q, n, t, bound, centered], [secret, masks, errors], c.value()),
-        Kind::EncryptMessageBatch => writing!(c, saigagalena_encrypt_message_batch, [q, n, t, bound, centered], [secret, masks, errors, input]),
-        Kind::PackEncoded => writing!(c, saigagalena_encrypt_encoded_packed, [q, n, bound], [secret, masks, errors, input]),
-        _ => writing!(c, saigagalena_encrypt_message_packed, [q, n, t, bound, centered], [secret, masks, errors, input]),
+        Kind::EncryptEncoded => writing!(
+            c,
+            saigagalena_encrypt_encoded,
+            [q, n, bound],
+            [secret, masks, errors],
+            c.value()
+        ),
+        Kind::EncryptEncodedSigned => writing!(
+            c,
+            saigagalena_encrypt_encoded_signed,
+            [q, n, bound],
+            [secret, masks, errors],
+            c.value()
+        ),
+        Kind::EncryptMessage => writing!(
+            c,
+            saigagalena_encrypt_message,
+            [q, n, t, bound, centered],
+            [secret, masks, errors],
+            c.value()
+        ),
+        Kind::EncryptMessageSigned => writing!(
+            c,
+            saigagalena_encrypt_message_signed,
+            [q, n, t, bound, centered],
+            [secret, masks, errors],
+            c.value()
+        ),
+        Kind::EncryptMessageBatch => writing!(
+            c,
+            saigagalena_encrypt_message_batch,
+            [q, n, t, bound, centered],
+            [secret, masks, errors, input]
+        ),
+        Kind::PackEncoded => writing!(
+            c,
+            saigagalena_encrypt_encoded_packed,
+            [q, n, bound],
+            [secret, masks, errors, input]
+        ),
+        _ => writing!(
+            c,
+            saigagalena_encrypt_message_packed,
+            [q, n, t, bound, centered],
+            [secret, masks, errors, input]
+        ),
     }
 }
 
@@ -139,33 +200,110 @@ fn opening_call(c: &Call) -> Said {
     let (q, n, t, bound) = (c.modulus, c.n, c.t, c.bound);
     match c.kind {
         Kind::Phase => answering!(c, saigagalena_decrypt_phase, [q, n, bound], [secret, input]),
-        Kind::PhaseSigned => answering!(c, saigagalena_decrypt_phase_signed, [q, n, bound], [secret, input]),
-        Kind::Message => answering!(c, saigagalena_decrypt_message, [q, n, t, bound], [secret, input]),
-        Kind::MessageSigned => answering!(c, saigagalena_decrypt_message_signed, [q, n, t, bound], [secret, input]),
-        Kind::PhaseBatch => writing!(c, saigagalena_decrypt_phase_batch, [q, n, bound], [secret, input]),
-        Kind::MessageBatch => writing!(c, saigagalena_decrypt_message_batch, [q, n, t, bound], [secret, input]),
-        Kind::PhasePacked => writing!(c, saigagalena_decrypt_phase_packed, [q, n, bound], [secret, input]),
-        _ => writing!(c, saigagalena_decrypt_message_packed, [q, n, t, bound], [secret, input]),
+        Kind::PhaseSigned => answering!(
+            c,
+            saigagalena_decrypt_phase_signed,
+            [q, n, bound],
+            [secret, input]
+        ),
+        Kind::Message => answering!(
+            c,
+            saigagalena_decrypt_message,
+            [q, n, t, bound],
+            [secret, input]
+        ),
+        Kind::MessageSigned => answering!(
+            c,
+            saigagalena_decrypt_message_signed,
+            [q, n, t, bound],
+            [secret, input]
+        ),
+        Kind::PhaseBatch => writing!(
+            c,
+            saigagalena_decrypt_phase_batch,
+            [q, n, bound],
+            [secret, input]
+        ),
+        Kind::MessageBatch => writing!(
+            c,
+            saigagalena_decrypt_message_batch,
+            [q, n, t, bound],
+            [secret, input]
+        ),
+        Kind::PhasePacked => writing!(
+            c,
+            saigagalena_decrypt_phase_packed,
+            [q, n, bound],
+            [secret, input]
+        ),
+        _ => writing!(
+            c,
+            saigagalena_decrypt_message_packed,
+            [q, n, t, bound],
+            [secret, input]
+        ),
     }
 }
 
 fn public_call(c: &Call) -> Said {
     let (q, n, t, bound, centered) = (c.modulus, c.n, c.t, c.bound, c.centered as u32);
     match c.kind {
-        Kind::PublicKey => writing!(c, saigagalena_public_key_generate, [q, n, bound], [secret, masks, errors]),
-        Kind::PublicKeySigned => writing!(c, saigagalena_public_key_generate_signed, [q, n, bound], [secret, masks, errors]),
-        Kind::PublicEncoded => writing!(c, saigagalena_public_key_encrypt_encoded, [q, n, bound], [key, errors, coefficients], c.value()),
-        _ => writing!(c, saigagalena_public_key_encrypt_message, [q, n, t, bound, centered], [key, errors, coefficients], c.value()),
+        Kind::PublicKey => writing!(
+            c,
+            saigagalena_public_key_generate,
+            [q, n, bound],
+            [secret, masks, errors]
+        ),
+        Kind::PublicKeySigned => writing!(
+            c,
+            saigagalena_public_key_generate_signed,
+            [q, n, bound],
+            [secret, masks, errors]
+        ),
+        Kind::PublicEncoded => writing!(
+            c,
+            saigagalena_public_key_encrypt_encoded,
+            [q, n, bound],
+            [key, errors, coefficients],
+            c.value()
+        ),
+        _ => writing!(
+            c,
+            saigagalena_public_key_encrypt_message,
+            [q, n, t, bound, centered],
+            [key, errors, coefficients],
+            c.value()
+        ),
     }
 }
 
 fn switching_call(c: &Call) -> Said {
     let (q, log, levels, n, m) = (c.modulus, c.base_log, c.levels, c.n, c.m);
     match c.kind {
-        Kind::Generate => writing!(c, saigagalena_key_generate, [q, log, levels, n, m, c.bound], [secret, output_key, masks, errors]),
-        Kind::GenerateSigned => writing!(c, saigagalena_key_generate_signed, [q, log, levels, n, m, c.bound], [secret, output_key, masks, errors]),
-        Kind::Switch => writing!(c, saigagalena_key_switch, [q, log, levels, n, m], [key, input]),
-        _ => writing!(c, saigagalena_key_switch_batch, [q, log, levels, n, m], [key, input]),
+        Kind::Generate => writing!(
+            c,
+            saigagalena_key_generate,
+            [q, log, levels, n, m, c.bound],
+            [secret, output_key, masks, errors]
+        ),
+        Kind::GenerateSigned => writing!(
+            c,
+            saigagalena_key_generate_signed,
+            [q, log, levels, n, m, c.bound],
+            [secret, output_key, masks, errors]
+        ),
+        Kind::Switch => writing!(
+            c,
+            saigagalena_key_switch,
+            [q, log, levels, n, m],
+            [key, input]
+        ),
+        _ => writing!(
+            c,
+            saigagalena_key_switch_batch,
+            [q, log, levels, n, m],
+            [key, input]
+        ),
     }
 }
 
@@ -176,8 +314,8 @@ pub fn said(c: &Call) -> Said {
         Encode | Decode | EncodeSlice | DecodeSlice => codec_call(c),
         EncryptEncoded | EncryptEncodedSigned | EncryptMessage | EncryptMessageSigned
         | EncryptMessageBatch | PackEncoded | PackMessage => encryption_call(c),
-        Phase | PhaseSigned | Message | MessageSigned | PhaseBatch | MessageBatch
-        | PhasePacked | MessagePacked => opening_call(c),
+        Phase | PhaseSigned | Message | MessageSigned | PhaseBatch | MessageBatch | PhasePacked
+        | MessagePacked => opening_call(c),
         PublicKey | PublicKeySigned | PublicEncoded | PublicMessage => public_call(c),
         Extract => writing!(c, saigagalena_extract, [c.modulus, c.n], [input], c.index),
         Generate | GenerateSigned | Switch | SwitchBatch => switching_call(c),

@@ -78,7 +78,10 @@ impl Report {
 
     pub fn print(&self, title: &str) {
         println!("{title}:");
-        println!("{:>10} {:>10} {:>10} {:>12}", "native", "explicit", "refused", "words");
+        println!(
+            "{:>10} {:>10} {:>10} {:>12}",
+            "native", "explicit", "refused", "words"
+        );
         let mut total = Counts::default();
         for (kind, c) in &self.counts {
             line(*c, &format!("{kind:?}"));
@@ -92,17 +95,27 @@ impl Report {
 
     /// What the Rust did where 01 refuses for one reason alone.
     pub fn print_refusals(&self) {
-        println!("what the Rust does where 01 refuses for one reason alone, and the smallest call:");
+        println!(
+            "what the Rust does where 01 refuses for one reason alone, and the smallest call:"
+        );
         for ((check, does), seen) in &self.refusals {
             let does = match does {
                 Some(does) => format!("{does:?}"),
                 None => "not asked".to_string(),
             };
-            println!("{:2} {check:?}: {does} {}\n     {}", check.number(), seen.count, seen.call);
+            println!(
+                "{:2} {check:?}: {does} {}\n     {}",
+                check.number(),
+                seen.count,
+                seen.call
+            );
         }
     }
 }
 
 fn line(c: Counts, name: &str) {
-    println!("{:>10} {:>10} {:>10} {:>12} {name}", c.native, c.explicit, c.refused, c.words);
+    println!(
+        "{:>10} {:>10} {:>10} {:>12} {name}",
+        c.native, c.explicit, c.refused, c.words
+    );
 }

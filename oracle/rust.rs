@@ -123,10 +123,7 @@ fn encryption<M: RingContext<u32>>(
     ))
 }
 
-fn parameters<M: RingContext<u32>>(
-    call: &Call,
-    modulus: M,
-) -> Result<LweParameters<u32, M>, Said> {
+fn parameters<M: RingContext<u32>>(call: &Call, modulus: M) -> Result<LweParameters<u32, M>, Said> {
     let n = dimension(call.n)?;
     codec(call, modulus)?;
     Ok(LweParameters::new(
@@ -231,7 +228,11 @@ fn reading(call: &Call) -> Answer {
         })
         .sum();
     let missing = word as i64 - reading;
-    let missing = if missing.abs() <= bound { missing } else { missing - q };
+    let missing = if missing.abs() <= bound {
+        missing
+    } else {
+        missing - q
+    };
     Ok([reading, missing]
         .iter()
         .flat_map(|&x| [x as u32, (x >> 32) as u32])
@@ -283,7 +284,14 @@ fn encrypted<M: RingContext<u32>>(call: &Call, modulus: M) -> Answer {
         LweSecretKeyRef::Encoded(&call.secret)
     };
     let uniform = modulus.uniform_distribution();
-    secret.encrypt_encoded_to(plaintext, &mut out, modulus, uniform, &noise(modulus), &mut lent);
+    secret.encrypt_encoded_to(
+        plaintext,
+        &mut out,
+        modulus,
+        uniform,
+        &noise(modulus),
+        &mut lent,
+    );
     lent.end()?;
     Ok(out.0)
 }
@@ -296,7 +304,13 @@ fn encrypted_messages<M: RingContext<u32>>(call: &Call, modulus: M) -> Answer {
     if call.kind == Kind::EncryptMessage {
         let mut ciphertext = Lwe::new(out.as_mut_slice());
         let message = call.value();
-        key.encrypt_message_to(message, &mut ciphertext, &parameters, embedding(call), &mut lent);
+        key.encrypt_message_to(
+            message,
+            &mut ciphertext,
+            &parameters,
+            embedding(call),
+            &mut lent,
+        );
     } else {
         key.encrypt_message_batch_to(
             &call.input,
@@ -444,7 +458,13 @@ fn switched<M: RingContext<u32>>(call: &Call, modulus: M) -> Answer {
     dimension(call.m)?;
     let (input, target) = (vec![0; call.n], vec![0; call.m]);
     let rows = Lent::rows(&call.key, call.m + 1);
-    let key = switching_key(call, LweSecretKeyRef::Encoded(&input), &target, rows, modulus)?;
+    let key = switching_key(
+        call,
+        LweSecretKeyRef::Encoded(&input),
+        &target,
+        rows,
+        modulus,
+    )?;
     assert_eq!(key.as_slice(), call.key, "the key was not loaded");
     let mut out = Lwe::new(output(call));
     if call.kind == Kind::Switch {

@@ -80,7 +80,9 @@ fn codec(report: &mut Report, q: u32, t: u32) {
 fn switches(report: &mut Report, draw: &mut Draw, q: u32) {
     for mut call in bases(q) {
         (call.n, call.m) = (1, 1);
-        call.key = (0..2 * levels(&call)).map(|_| draw.below(q as u64) as u32).collect();
+        call.key = (0..2 * levels(&call))
+            .map(|_| draw.below(q as u64) as u32)
+            .collect();
         let all: Vec<Vec<u32>> = (0..q * q).map(|i| vec![i / q, i % q]).collect();
         call.kind = Kind::SwitchBatch;
         call.input = all.concat();
