@@ -196,7 +196,8 @@ pub struct Call {
     pub m: usize,
     pub t: u32,
     pub bound: u32,
-    pub centered: bool,
+    /// 0 is Unsigned, any other number Centered.
+    pub centered: u32,
     /// Words, or signed numbers in two's complement.
     pub secret: Vec<u32>,
     pub output_key: Vec<u32>,
@@ -249,7 +250,9 @@ impl Call {
         let sizes = [self.n, self.m, self.index, self.out_len];
         let sizes = sizes.iter().map(|&x| x as u128);
         let q = self.q() as u128;
-        q + words.chain(lent).chain(numbers).chain(sizes).sum::<u128>()
+        // A call about nothing is no example.
+        let empty = 1000 * (self.kind.takes_a_run() && self.input.is_empty()) as u128;
+        empty + q + words.chain(lent).chain(numbers).chain(sizes).sum::<u128>()
     }
 }
 
@@ -272,7 +275,7 @@ impl std::fmt::Display for Call {
             write!(f, " {name} {number}")?;
         }
         if kind.is_signed() {
-            write!(f, " secret {:?}", self.numbers())?;
+            run(f, "secret", &self.numbers())?;
         } else {
             run(f, "secret", &self.secret)?;
         }
@@ -289,15 +292,19 @@ impl std::fmt::Display for Call {
     }
 }
 
-fn run<T: std::fmt::Debug>(
+/// A run of many equal numbers as [number; length].
+fn run<T: std::fmt::Debug + PartialEq>(
     f: &mut std::fmt::Formatter<'_>,
     name: &str,
     words: &[T],
 ) -> std::fmt::Result {
-    if words.is_empty() {
-        return Ok(());
+    match words {
+        [] => Ok(()),
+        [first, ..] if words.len() > 4 && words.iter().all(|w| w == first) => {
+            write!(f, " {name} [{first:?}; {}]", words.len())
+        }
+        _ => write!(f, " {name} {words:?}"),
     }
-    write!(f, " {name} {words:?}")
 }
 
 /// What a side did with a call.

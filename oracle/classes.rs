@@ -15,19 +15,25 @@ pub enum Does {
 
 use Does::*;
 
-pub fn done(said: &Said) -> Does {
+/// `None`: lent numbers were left over, which no class covers.
+pub fn done(said: &Said) -> Option<Does> {
     match said {
-        Said::Refused(_) => Errs,
-        Said::Words(_) => Answers,
-        _ => Panics,
+        Said::Refused(_) => Some(Errs),
+        Said::Words(_) => Some(Answers),
+        Said::Panicked => Some(Panics),
+        Said::LeftOver | Said::Spoiled(_) => None,
     }
 }
 
 /// To a raw view of a key the key's length is the dimension: a wrong key and a wrong ciphertext may fit each other.
 pub fn fit_each_other(kind: Kind, checks: &[Check]) -> bool {
-    matches!(kind, Kind::Phase | Kind::PhaseSigned | Kind::MessageSigned)
-        && checks.contains(&SecretLength)
-        && checks.contains(&InputLength)
+    use Kind::*;
+    let other = match kind {
+        Phase | PhaseSigned | MessageSigned => InputLength,
+        EncryptEncoded | EncryptEncodedSigned | EncryptMessageSigned => OutputLength,
+        _ => return false,
+    };
+    checks.contains(&SecretLength) && checks.contains(&other)
 }
 
 /// What the Rust may do with a call of this kind to which the check applies; `None` where it cannot be asked.

@@ -21,15 +21,15 @@ fn stands_for(error: u32, checks: &[Check]) -> bool {
 }
 
 fn allowed(call: &Call, checks: &[Check], said: &Said) -> bool {
-    let does = classes::done(said);
-    let right = match said {
-        Said::Refused(error) => stands_for(*error, checks),
-        _ => true,
+    let may = |does| {
+        let by = |check| classes::allowed(call.kind, check).is_some_and(|all| all.contains(&does));
+        checks.iter().any(|&check| by(check))
     };
-    let by = |check| classes::allowed(call.kind, check).is_some_and(|these| these.contains(&does));
-    right
-        && (checks.iter().any(|&check| by(check))
-            || does == Does::Answers && classes::fit_each_other(call.kind, checks))
+    match said {
+        Said::Refused(error) if !stands_for(*error, checks) => false,
+        Said::Words(_) | Said::LeftOver if classes::fit_each_other(call.kind, checks) => true,
+        _ => classes::done(said).is_some_and(may),
+    }
 }
 
 /// A call that 01 refuses by the first of these checks.
@@ -55,7 +55,7 @@ pub fn refusals(
     if !allowed(call, &checks, &said) {
         return Outcome::Differs(format!("01 refuses ({checks:?}), the Rust: {said:?}"));
     }
-    Outcome::Refused(checks, Some(classes::done(&said)))
+    Outcome::Refused(checks, classes::done(&said))
 }
 
 /// A call that 01 accepts.

@@ -58,14 +58,19 @@ fn modulus(draw: &mut Draw) -> u32 {
     }
 }
 
+/// A public key has n rows.
+fn is_square(kind: Kind) -> bool {
+    use Kind::*;
+    matches!(
+        kind,
+        PublicKey | PublicKeySigned | PublicEncoded | PublicMessage
+    )
+}
+
 /// Mostly small; now and then larger, and rarely in the hundreds.
 fn dimension(draw: &mut Draw, kind: Kind) -> usize {
-    let square = matches!(
-        kind,
-        Kind::PublicKey | Kind::PublicKeySigned | Kind::PublicEncoded | Kind::PublicMessage
-    );
     let n = match draw.below(2000) {
-        0 if !square => draw.between(600, 900),
+        0 if !is_square(kind) => draw.between(600, 900),
         0..50 => draw.between(13, 64),
         50..250 => 1,
         _ => draw.between(1, 12),
@@ -184,7 +189,7 @@ fn parameters(draw: &mut Draw, kind: Kind, n: usize) -> Call {
         } else {
             dimension(draw, kind).min(64)
         },
-        centered: draw.one_in(2),
+        centered: draw.choose(&[0, 0, 0, 1, 1, 2, 256, u32::MAX]),
         ..Call::default()
     };
     if kind.has_basis() {
@@ -328,7 +333,7 @@ pub fn accepted(draw: &mut Draw, kind: Kind) -> Call {
 }
 
 /// Every place that a damage can take.
-const PLACES: u64 = 18;
+const PLACES: u64 = 19;
 
 fn damage(draw: &mut Draw, call: &mut Call) {
     let q = call.q();
@@ -350,7 +355,8 @@ fn damage(draw: &mut Draw, call: &mut Call) {
         12..15 => damage_word(draw, call),
         15 => damage_error(draw, call),
         16 => call.index = draw.choose(&[call.input.len().saturating_sub(call.n), usize::MAX]),
-        _ => damage_message(draw, call),
+        17 => damage_message(draw, call),
+        _ => damage_count(call),
     }
 }
 
@@ -451,25 +457,50 @@ fn damage_message(draw: &mut Draw, call: &mut Call) {
     }
 }
 
-/// Dimensions past their limits, with all lengths as they have to be.
-fn beyond(draw: &mut Draw, kind: Kind) -> Call {
-    let square = matches!(
-        kind,
-        Kind::PublicKey | Kind::PublicKeySigned | Kind::PublicEncoded | Kind::PublicMessage
-    );
-    let n = if square || !draw.one_in(50) { 0 } else { 2049 };
-    sized(draw, kind, n)
+/// One body more than the n of a packed ciphertext, with all lengths as they have to be.
+fn damage_count(call: &mut Call) {
+    let n = call.n.min(2048);
+    match call.kind {
+        Kind::PackEncoded | Kind::PackMessage => {
+            call.input.resize(n + 1, 0);
+            call.errors.resize(n + 1, 0);
+            call.out_len = 2 * n + 1;
+        }
+        Kind::PhasePacked | Kind::MessagePacked => {
+            call.input.resize(2 * n + 1, 0);
+            call.out_len = n + 1;
+        }
+        _ => {}
+    }
 }
 
-/// Small numbers everywhere: for the smallest input of each refusal.
+/// Words and errors of 0: for the smallest input of each refusal.
+fn plain(mut call: Call) -> Call {
+    for run in runs(&mut call) {
+        run.fill(0);
+    }
+    call.errors.fill(0);
+    call.coefficients.fill(0);
+    call
+}
+
+/// Dimensions past their limits, with all lengths as they have to be.
+fn beyond(draw: &mut Draw, kind: Kind) -> Call {
+    let n = if is_square(kind) || !draw.one_in(50) {
+        0
+    } else {
+        2049
+    };
+    plain(sized(draw, kind, n))
+}
+
 fn tiny(draw: &mut Draw, kind: Kind) -> Call {
-    for _ in 0..20 {
+    loop {
         let call = sized(draw, kind, 1);
-        if call.modulus != 0 && call.modulus < 20 && call.m < 3 {
-            return call;
+        if (4..20).contains(&call.modulus) && call.m < 3 {
+            return plain(call);
         }
     }
-    sized(draw, kind, 1)
 }
 
 /// A call that 01 refuses.

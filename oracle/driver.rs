@@ -80,7 +80,7 @@ fn codec(number: u32, mut call: Call, o: &mut Operands) -> Option<Call> {
     call.t = o.word()?;
     if number != 11 {
         call.kind = Kind::EncodeSlice;
-        call.centered = o.flag()?;
+        call.centered = o.flag()? as u32;
     }
     if number == 12 {
         call.masks = o.run()?;
@@ -111,7 +111,7 @@ fn messages(number: u32, mut call: Call, o: &mut Operands) -> Option<Call> {
     call.t = o.word()?;
     if number < 23 {
         call.kind = [Kind::EncryptMessage, Kind::EncryptMessageBatch][number as usize - 21];
-        call.centered = o.flag()?;
+        call.centered = o.flag()? as u32;
         call.secret = o.run()?;
         call.masks = o.run()?;
         call.errors = o.numbers()?;
@@ -135,7 +135,7 @@ fn packed(number: u32, mut call: Call, o: &mut Operands) -> Option<Call> {
         call.t = o.word()?;
     }
     if number == 31 {
-        call.centered = o.flag()?;
+        call.centered = o.flag()? as u32;
     }
     call.secret = o.run()?;
     call.n = call.secret.len();

@@ -32,10 +32,10 @@ const FAULTS: [Fault; 12] = [
     Fault { name: "masks in another order", kinds: &[Kind::Generate, Kind::PackEncoded], given: |call| call.masks.reverse(), said: as_said },
     Fault { name: "errors in another order", kinds: &[Kind::PublicEncoded, Kind::Generate], given: |call| call.errors.reverse(), said: as_said },
     Fault { name: "masks and errors exchanged", kinds: &[Kind::EncryptEncoded, Kind::PublicKey], given: exchange, said: as_said },
-    Fault { name: "the other embedding", kinds: &[Kind::Encode, Kind::EncryptMessage], given: |call| call.centered = !call.centered, said: as_said },
+    Fault { name: "the other embedding", kinds: &[Kind::Encode, Kind::EncryptMessage], given: |call| call.centered = (call.centered == 0) as u32, said: as_said },
     Fault { name: "coefficients of the other sign", kinds: &[Kind::PublicEncoded, Kind::PublicMessage], given: |call| call.coefficients.iter_mut().for_each(|c| *c = -*c), said: as_said },
     Fault { name: "the sample of another body", kinds: &[Kind::Extract], given: |call| call.index = call.index.saturating_sub(1), said: as_said },
-    Fault { name: "the last ciphertext of a batch not switched", kinds: &[Kind::SwitchBatch], given: |call| if let Some(word) = call.input.last_mut() { *word = 0 }, said: as_said },
+    Fault { name: "the last body of a batch taken as 0", kinds: &[Kind::SwitchBatch], given: |call| if let Some(word) = call.input.last_mut() { *word = 0 }, said: as_said },
 ];
 
 fn flip(words: &mut Vec<u32>) {

@@ -47,7 +47,7 @@ macro_rules! writing {
         let mut out = vec![FILL; $call.out_len];
         // SAFETY: each pointer and length is one run of the call, alive and lent while the function runs.
         let number = unsafe {
-            $function($($number,)* $($call.$run.as_ptr().cast(), $call.$run.len(),)* $($last,)? out.as_mut_ptr(), out.len())
+            $function($($number,)* $(start(&$call.$run), $call.$run.len(),)* $($last,)? out.as_mut_ptr(), out.len())
         };
         written(number, out)
     }};
@@ -57,13 +57,22 @@ macro_rules! writing {
 macro_rules! answering {
     ($call:ident, $function:ident, [$($number:expr),*], [$($run:ident),*]) => {{
         // SAFETY: as above.
-        let answer = unsafe { $function($($number,)* $($call.$run.as_ptr().cast(), $call.$run.len(),)*) };
+        let answer = unsafe { $function($($number,)* $(start(&$call.$run), $call.$run.len(),)*) };
         if answer < 1 << 32 {
             Said::Words(vec![answer as u32])
         } else {
             Said::Refused((answer - (1 << 32)) as u32)
         }
     }};
+}
+
+/// Null where there is nothing, as the header allows.
+fn start<S, T>(run: &[S]) -> *const T {
+    if run.is_empty() {
+        std::ptr::null()
+    } else {
+        run.as_ptr().cast()
+    }
 }
 
 fn written(number: u32, out: Vec<u32>) -> Said {
@@ -125,7 +134,7 @@ fn basis_call(c: &Call) -> Said {
 }
 
 fn codec_call(c: &Call) -> Said {
-    let centered = c.centered as u32;
+    let centered = c.centered;
     match c.kind {
         Kind::Encode => answering!(
             c,
@@ -145,7 +154,7 @@ fn codec_call(c: &Call) -> Said {
 }
 
 fn encryption_call(c: &Call) -> Said {
-    let (q, n, t, bound, centered) = (c.modulus, c.n, c.t, c.bound, c.centered as u32);
+    let (q, n, t, bound, centered) = (c.modulus, c.n, c.t, c.bound, c.centered);
     match c.kind {
         Kind::EncryptEncoded => writing!(
             c,
@@ -246,7 +255,7 @@ fn opening_call(c: &Call) -> Said {
 }
 
 fn public_call(c: &Call) -> Said {
-    let (q, n, t, bound, centered) = (c.modulus, c.n, c.t, c.bound, c.centered as u32);
+    let (q, n, t, bound, centered) = (c.modulus, c.n, c.t, c.bound, c.centered);
     match c.kind {
         Kind::PublicKey => writing!(
             c,

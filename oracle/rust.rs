@@ -140,7 +140,7 @@ fn noise<M: RingContext<u32>>(modulus: M) -> DiscreteGaussian<u32> {
 }
 
 fn embedding(call: &Call) -> PlaintextEmbedding {
-    if call.centered {
+    if call.centered != 0 {
         PlaintextEmbedding::Centered
     } else {
         PlaintextEmbedding::Unsigned

@@ -54,9 +54,9 @@ fn digits(report: &mut Report, q: u32) {
 /// Every message and every word for q and t, one by one and as a slice; and one past the last of each.
 fn codec(report: &mut Report, q: u32, t: u32) {
     for (one, slice, centered, count) in [
-        (Kind::Encode, Kind::EncodeSlice, false, t),
-        (Kind::Encode, Kind::EncodeSlice, true, t),
-        (Kind::Decode, Kind::DecodeSlice, false, q),
+        (Kind::Encode, Kind::EncodeSlice, 0, t),
+        (Kind::Encode, Kind::EncodeSlice, 1, t),
+        (Kind::Decode, Kind::DecodeSlice, 0, q),
     ] {
         let mut call = Call {
             kind: slice,
@@ -96,6 +96,133 @@ fn switches(report: &mut Report, draw: &mut Draw, q: u32) {
     }
 }
 
+/// Every choice of one number below each of the bounds.
+fn every(bounds: &[u32]) -> Vec<Vec<u32>> {
+    bounds.iter().fold(vec![vec![]], |choices, &bound| {
+        let longer = |choice: &Vec<u32>, x| [&choice[..], &[x]].concat();
+        let all = choices.iter();
+        all.flat_map(|choice| (0..bound).map(move |x| longer(choice, x)))
+            .collect()
+    })
+}
+
+/// Every secret, mask, plaintext and error of one mask word; then every phase and every message.
+fn encryptions(report: &mut Report, q: u32) {
+    let (signs, n) = (2 * q - 1, 1);
+    for signed in [false, true] {
+        let secrets = if signed { signs } else { q };
+        let secret = |x: u32| if signed { x.wrapping_sub(q - 1) } else { x };
+        for choice in every(&[secrets, q, q, signs]) {
+            let call = Call {
+                kind: [Kind::EncryptEncoded, Kind::EncryptEncodedSigned][signed as usize],
+                modulus: q,
+                n,
+                bound: q - 1,
+                secret: vec![secret(choice[0])],
+                masks: vec![choice[1]],
+                input: vec![choice[2]],
+                errors: vec![choice[3] as i32 - q as i32 + 1],
+                out_len: 2,
+                ..Call::default()
+            };
+            report.add(&call, compare(&call));
+        }
+        for choice in every(&[secrets, q, q]) {
+            let call = Call {
+                kind: [Kind::Phase, Kind::PhaseSigned][signed as usize],
+                modulus: q,
+                n,
+                secret: vec![secret(choice[0])],
+                input: choice[1..].to_vec(),
+                ..Call::default()
+            };
+            report.add(&call, compare(&call));
+        }
+    }
+}
+
+/// Every secret, mask and plaintexts of a full packed ciphertext of dimension 2, and its phases and samples.
+fn packed(report: &mut Report, q: u32) {
+    for choice in every(&[q, q, q, q, q, q]) {
+        let pack = Call {
+            kind: Kind::PackEncoded,
+            modulus: q,
+            n: 2,
+            bound: 1,
+            secret: choice[..2].to_vec(),
+            masks: choice[2..4].to_vec(),
+            errors: vec![1, -1],
+            input: choice[4..].to_vec(),
+            out_len: 4,
+            ..Call::default()
+        };
+        report.add(&pack, compare(&pack));
+        let open = Call {
+            kind: Kind::PhasePacked,
+            input: choice[2..].to_vec(),
+            masks: vec![],
+            errors: vec![],
+            out_len: 2,
+            ..pack
+        };
+        report.add(&open, compare(&open));
+    }
+    for choice in every(&[q, q, q, q, 2]) {
+        let call = Call {
+            kind: Kind::Extract,
+            modulus: q,
+            n: 2,
+            input: choice[..4].to_vec(),
+            index: choice[4] as usize,
+            out_len: 3,
+            ..Call::default()
+        };
+        report.add(&call, compare(&call));
+    }
+}
+
+/// Every public key of one row, with every plaintext, coefficient and errors of −1, 0, 1.
+fn public(report: &mut Report, q: u32) {
+    let sign = |x: u32| x as i32 - 1;
+    for choice in every(&[q, q, q, 3, 3, 3]) {
+        let call = Call {
+            kind: Kind::PublicEncoded,
+            modulus: q,
+            n: 1,
+            bound: 1,
+            key: choice[..2].to_vec(),
+            input: vec![choice[2]],
+            errors: vec![sign(choice[3]), sign(choice[4])],
+            coefficients: vec![sign(choice[5])],
+            out_len: 2,
+            ..Call::default()
+        };
+        report.add(&call, compare(&call));
+    }
+}
+
+/// Every key of one entry: both secrets, the mask, and errors of −1, 0, 1.
+fn keys(report: &mut Report, q: u32) {
+    for choice in every(&[q, q, q, 3]) {
+        let call = Call {
+            kind: Kind::Generate,
+            modulus: q,
+            base_log: 2,
+            levels: 1,
+            n: 1,
+            m: 1,
+            bound: 1,
+            secret: vec![choice[0]],
+            output_key: vec![choice[1]],
+            masks: vec![choice[2]],
+            errors: vec![choice[3] as i32 - 1],
+            out_len: 2,
+            ..Call::default()
+        };
+        report.add(&call, compare(&call));
+    }
+}
+
 pub fn everything(report: &mut Report, seed: u64) {
     let mut draw = Draw(seed);
     for q in 4..=200 {
@@ -108,5 +235,13 @@ pub fn everything(report: &mut Report, seed: u64) {
     }
     for q in 4..=17 {
         switches(report, &mut draw, q);
+        keys(report, q);
+    }
+    for q in 4..=8 {
+        encryptions(report, q);
+        public(report, q);
+    }
+    for q in 4..=5 {
+        packed(report, q);
     }
 }
