@@ -41,19 +41,19 @@ pub fn allowed(kind: Kind, check: Check) -> Option<&'static [Does]> {
     Some(match check {
         BaseLogBelow2 | BaseLogAbove31 | ModulusBelowBase | LevelsAboveFull => &[Errs],
         PlaintextModulusBelow2 | ModulusAtMostT => &[Errs],
-        // The kinds of a basis need q ≥ B ≥ 4; a codec needs q > t; nothing else looks at q.
+        // A basis needs q ≥ B ≥ 4, and a codec q > t, which is check 8; nothing else looks at q.
         ModulusBelow4 if kind.has_basis() => &[Errs],
-        ModulusBelow4 if kind.has_t() => &[Errs, Answers],
         ModulusBelow4 | PlaintextModulusAbove65536 => &[Answers],
         // Its own limit is usize::MAX − 1.
         DimensionAbove2048 => &[Answers, Errs],
         DimensionZero => dimension_zero(kind),
         SecretLength => return secret_length(kind),
         OutputKeyLength => &[Panics],
-        InputLength => input_length(kind),
-        PackedCount if kind == Kind::Extract => &[Answers],
+        InputLength => &[Panics],
+        // It takes any number of bodies, and panics where the index is above n.
+        PackedCount if kind == Kind::Extract => &[Answers, Panics],
         PackedCount => &[Panics],
-        // The body past the last is out of bounds; one past n bodies is not seen.
+        // The body past the last is out of bounds.
         BodyIndex => &[Panics],
         OutputLength => output_length(kind),
         // It has no E.
@@ -93,14 +93,6 @@ fn secret_length(kind: Kind) -> Option<&'static [Does]> {
         // The key's length is the dimension: 10 may apply to it or not.
         PhasePacked => Some(&[Panics, Answers]),
         _ => Some(&[Panics]),
-    }
-}
-
-fn input_length(kind: Kind) -> &'static [Does] {
-    match kind {
-        // An empty rest after the mask is no body; extract looks at no more than it needs.
-        Kind::Extract => &[Panics, Answers],
-        _ => &[Panics],
     }
 }
 

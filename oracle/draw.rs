@@ -179,16 +179,12 @@ fn rows(draw: &mut Draw, call: &Call) -> usize {
 }
 
 /// The plain numbers of an accepted call.
-fn parameters(draw: &mut Draw, kind: Kind, n: usize) -> Call {
+fn parameters(draw: &mut Draw, kind: Kind, (n, m): (usize, usize)) -> Call {
     let mut call = Call {
         kind,
         modulus: modulus(draw),
         n,
-        m: if n > 64 {
-            draw.between(1, 4) as usize
-        } else {
-            dimension(draw, kind).min(64)
-        },
+        m,
         centered: draw.choose(&[0, 0, 0, 1, 1, 2, 256, u32::MAX]),
         ..Call::default()
     };
@@ -205,9 +201,9 @@ fn parameters(draw: &mut Draw, kind: Kind, n: usize) -> Call {
     call
 }
 
-/// An accepted call of a kind, under dimension n.
-pub fn sized(draw: &mut Draw, kind: Kind, n: usize) -> Call {
-    let mut call = parameters(draw, kind, n);
+/// A call of a kind with these dimensions: accepted where they are.
+fn sized(draw: &mut Draw, kind: Kind, dimensions: (usize, usize)) -> Call {
+    let mut call = parameters(draw, kind, dimensions);
     match kind {
         Kind::Basis => call.out_len = 6,
         Kind::Reading | Kind::DigitsSingle | Kind::Digits => fill_digits(draw, &mut call),
@@ -328,8 +324,9 @@ fn fill_switching(draw: &mut Draw, call: &mut Call) {
 }
 
 pub fn accepted(draw: &mut Draw, kind: Kind) -> Call {
-    let n = dimension(draw, kind);
-    sized(draw, kind, n)
+    let (n, m) = (dimension(draw, kind), dimension(draw, kind));
+    let m = if n > 64 { m.min(4) } else { m };
+    sized(draw, kind, (n, m))
 }
 
 /// Every place that a damage can take.
@@ -486,18 +483,22 @@ fn plain(mut call: Call) -> Call {
 
 /// Dimensions past their limits, with all lengths as they have to be.
 fn beyond(draw: &mut Draw, kind: Kind) -> Call {
-    let n = if is_square(kind) || !draw.one_in(50) {
+    let other = if is_square(kind) || !draw.one_in(50) {
         0
     } else {
         2049
     };
-    plain(sized(draw, kind, n))
+    let dimensions = match draw.below(2) {
+        0 if kind.is_switching() => (1, other),
+        _ => (other, 1),
+    };
+    plain(sized(draw, kind, dimensions))
 }
 
 fn tiny(draw: &mut Draw, kind: Kind) -> Call {
     loop {
-        let call = sized(draw, kind, 1);
-        if (4..20).contains(&call.modulus) && call.m < 3 {
+        let call = sized(draw, kind, (1, 1));
+        if (4..20).contains(&call.modulus) {
             return plain(call);
         }
     }
