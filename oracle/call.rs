@@ -223,6 +223,26 @@ impl Call {
     pub fn explicit(&self) -> Option<u32> {
         (self.modulus != 0).then_some(self.modulus)
     }
+    /// k of document 01.
+    pub fn value_bits(&self) -> u32 {
+        let q = self.q();
+        if q.is_power_of_two() {
+            q.trailing_zeros()
+        } else {
+            64 - q.leading_zeros()
+        }
+    }
+    /// As many levels as fit; 0 where there is no base.
+    pub fn full_levels(&self) -> u32 {
+        self.value_bits().checked_div(self.base_log).unwrap_or(0)
+    }
+    /// L of document 01.
+    pub fn level_count(&self) -> usize {
+        match self.levels {
+            0 => self.full_levels() as usize,
+            given => given as usize,
+        }
+    }
     pub fn numbers(&self) -> Vec<i32> {
         self.secret.iter().map(|&w| w as i32).collect()
     }

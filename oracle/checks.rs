@@ -61,25 +61,6 @@ impl Check {
     }
 }
 
-/// The level count that fits, by 01; 0 where there is no base.
-pub fn full_levels(call: &Call) -> u32 {
-    let q = call.q();
-    let bits = if q.is_power_of_two() {
-        q.trailing_zeros()
-    } else {
-        64 - q.leading_zeros()
-    };
-    bits.checked_div(call.base_log).unwrap_or(0)
-}
-
-/// L, for the lengths.
-pub fn levels(call: &Call) -> u128 {
-    match call.levels {
-        0 => full_levels(call) as u128,
-        given => given as u128,
-    }
-}
-
 /// The lengths that the operands of a call have to have; those that it does not take are empty.
 #[derive(Default)]
 struct Lengths {
@@ -95,7 +76,7 @@ struct Lengths {
 fn lengths(call: &Call) -> Lengths {
     use Kind::*;
     let (n, m, count) = (call.n as u128, call.m as u128, call.input.len() as u128);
-    let entries = n.saturating_mul(levels(call));
+    let entries = n.saturating_mul(call.level_count() as u128);
     let single = Lengths {
         secret: n,
         masks: n,
@@ -115,7 +96,7 @@ fn lengths(call: &Call) -> Lengths {
     match call.kind {
         Basis => out(6),
         Reading => out(2),
-        DigitsSingle | Digits => out(levels(call) * count),
+        DigitsSingle | Digits => out(call.level_count() as u128 * count),
         Encode | Decode => out(0),
         EncodeSlice | DecodeSlice => out(count),
         EncryptEncoded | EncryptEncodedSigned | EncryptMessage | EncryptMessageSigned => single,
@@ -175,7 +156,7 @@ fn basis_checks(call: &Call) -> Vec<(Check, bool)> {
             ModulusBelowBase,
             below_base || call.modulus != 0 && log >= 64,
         ),
-        (LevelsAboveFull, call.levels > full_levels(call)),
+        (LevelsAboveFull, call.levels > call.full_levels()),
     ]
 }
 

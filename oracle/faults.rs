@@ -1,7 +1,8 @@
 //! Faults planted in what the Rust is given, in what it says, or in what is expected: each has to be noticed.
 
 use crate::compare::{Outcome, answers, refusals};
-use crate::draw::{Draw, accepted, refused};
+use crate::damage::refused;
+use crate::draw::{Draw, accepted};
 use crate::{checks, proved};
 use supplied::call::{Call, Kind, Said};
 use supplied::rust;
@@ -28,7 +29,7 @@ const FAULTS: [Fault; 12] = [
     Fault { name: "a word missing", kinds: &Kind::ALL, given: as_it_is, said: |words| words.truncate(words.len().saturating_sub(1)) },
     Fault { name: "two words of a ciphertext exchanged", kinds: &[Kind::EncryptEncoded, Kind::SwitchBatch], given: as_it_is, said: |words| words.reverse() },
     Fault { name: "a digit one higher", kinds: &[Kind::Digits], given: as_it_is, said: |words| if let Some(word) = words.first_mut() { *word = word.wrapping_add(1) } },
-    Fault { name: "one level fewer", kinds: &[Kind::Digits, Kind::Generate], given: |call| call.levels = checks::levels(call).saturating_sub(1).max(1) as u32, said: as_said },
+    Fault { name: "one level fewer", kinds: &[Kind::Digits, Kind::Generate], given: |call| call.levels = call.level_count().saturating_sub(1).max(1) as u32, said: as_said },
     Fault { name: "masks in another order", kinds: &[Kind::Generate, Kind::PackEncoded], given: |call| call.masks.reverse(), said: as_said },
     Fault { name: "errors in another order", kinds: &[Kind::PublicEncoded, Kind::Generate], given: |call| call.errors.reverse(), said: as_said },
     Fault { name: "masks and errors exchanged", kinds: &[Kind::EncryptEncoded, Kind::PublicKey], given: exchange, said: as_said },

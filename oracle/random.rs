@@ -1,11 +1,12 @@
 //! The supplied Rust and the proved library in one process, on the same operands.
 //!
-//!     random SEED [CALLS]     everything small, then CALLS random calls (1,500,000), a third of them to be refused
+//!     random SEED [CALLS]     everything small, then CALLS random calls (10,000,000), a third of them to be refused
 //!     random faults SEED      plants faults and says whether each is noticed
 
 mod checks;
 mod classes;
 mod compare;
+mod damage;
 mod draw;
 mod faults;
 mod proved;
@@ -21,7 +22,7 @@ fn random(report: &mut Report, seed: u64, calls: u64) {
     for _ in 0..calls {
         let kind = draw.choose(&Kind::ALL);
         let call = if draw.one_in(3) {
-            draw::refused(&mut draw, kind)
+            damage::refused(&mut draw, kind)
         } else {
             draw::accepted(&mut draw, kind)
         };
@@ -47,7 +48,7 @@ fn main() {
         std::process::exit(faults::all_noticed(number(words.next(), 1)));
     }
     let seed = number(first, 1);
-    let calls = number(words.next(), 1_500_000);
+    let calls = number(words.next(), 10_000_000);
     let mut report = Report::default();
     small::everything(&mut report, seed);
     report.print("everything small");

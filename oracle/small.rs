@@ -1,6 +1,5 @@
 //! Everything that is small, on both sides.
 
-use crate::checks::full_levels;
 use crate::compare::compare;
 use crate::draw::Draw;
 use crate::report::Report;
@@ -15,7 +14,7 @@ fn bases(q: u32) -> Vec<Call> {
             base_log,
             ..Call::default()
         };
-        for levels in 0..=full_levels(&basis) {
+        for levels in 0..=basis.full_levels() {
             bases.push(Call {
                 levels,
                 ..basis.clone()
@@ -25,13 +24,6 @@ fn bases(q: u32) -> Vec<Call> {
     bases
 }
 
-fn levels(call: &Call) -> usize {
-    match call.levels {
-        0 => full_levels(call) as usize,
-        given => given as usize,
-    }
-}
-
 /// Every basis and every word of q.
 fn digits(report: &mut Report, q: u32) {
     for mut call in bases(q) {
@@ -39,11 +31,11 @@ fn digits(report: &mut Report, q: u32) {
         report.add(&call, compare(&call));
         call.kind = Kind::Digits;
         call.input = (0..q).collect();
-        call.out_len = levels(&call) * q as usize;
+        call.out_len = call.level_count() * q as usize;
         report.add(&call, compare(&call));
         for word in 0..q {
             call.input = vec![word];
-            (call.kind, call.out_len) = (Kind::DigitsSingle, levels(&call));
+            (call.kind, call.out_len) = (Kind::DigitsSingle, call.level_count());
             report.add(&call, compare(&call));
             (call.kind, call.out_len) = (Kind::Reading, 2);
             report.add(&call, compare(&call));
@@ -80,7 +72,7 @@ fn codec(report: &mut Report, q: u32, t: u32) {
 fn switches(report: &mut Report, draw: &mut Draw, q: u32) {
     for mut call in bases(q) {
         (call.n, call.m) = (1, 1);
-        call.key = (0..2 * levels(&call))
+        call.key = (0..2 * call.level_count())
             .map(|_| draw.below(q as u64) as u32)
             .collect();
         let all: Vec<Vec<u32>> = (0..q * q).map(|i| vec![i / q, i % q]).collect();
@@ -106,42 +98,47 @@ fn every(bounds: &[u32]) -> Vec<Vec<u32>> {
     })
 }
 
-/// Every secret, mask, plaintext and error of one mask word; then every phase and every message.
-fn encryptions(report: &mut Report, q: u32) {
-    let (signs, n) = (2 * q - 1, 1);
-    for signed in [false, true] {
-        let secrets = if signed { signs } else { q };
-        let secret = |x: u32| if signed { x.wrapping_sub(q - 1) } else { x };
-        for choice in every(&[secrets, q, q, signs]) {
-            let call = Call {
-                kind: [Kind::EncryptEncoded, Kind::EncryptEncodedSigned][signed as usize],
-                modulus: q,
-                n,
-                bound: q - 1,
-                secret: vec![secret(choice[0])],
-                masks: vec![choice[1]],
-                input: vec![choice[2]],
-                errors: vec![choice[3] as i32 - q as i32 + 1],
-                out_len: 2,
-                ..Call::default()
-            };
-            report.add(&call, compare(&call));
-        }
-        for choice in every(&[secrets, q, q]) {
-            let call = Call {
-                kind: [Kind::Phase, Kind::PhaseSigned][signed as usize],
-                modulus: q,
-                n,
-                secret: vec![secret(choice[0])],
-                input: choice[1..].to_vec(),
-                ..Call::default()
-            };
-            report.add(&call, compare(&call));
-        }
+/// A secret word of q, or a signed number within ±(q − 1) in two's complement.
+fn secret(q: u32, signed: bool, x: u32) -> Vec<u32> {
+    vec![if signed { x.wrapping_sub(q - 1) } else { x }]
+}
+
+/// Every secret, mask word, plaintext and error of dimension 1.
+fn encryptions(report: &mut Report, q: u32, signed: bool) {
+    let signs = 2 * q - 1;
+    for choice in every(&[if signed { signs } else { q }, q, q, signs]) {
+        let call = Call {
+            kind: [Kind::EncryptEncoded, Kind::EncryptEncodedSigned][signed as usize],
+            modulus: q,
+            n: 1,
+            bound: q - 1,
+            secret: secret(q, signed, choice[0]),
+            masks: vec![choice[1]],
+            input: vec![choice[2]],
+            errors: vec![choice[3] as i32 - q as i32 + 1],
+            out_len: 2,
+            ..Call::default()
+        };
+        report.add(&call, compare(&call));
     }
 }
 
-/// Every secret, mask and plaintexts of a full packed ciphertext of dimension 2, and its phases and samples.
+/// Every secret and ciphertext of dimension 1.
+fn phases(report: &mut Report, q: u32, signed: bool) {
+    for choice in every(&[if signed { 2 * q - 1 } else { q }, q, q]) {
+        let call = Call {
+            kind: [Kind::Phase, Kind::PhaseSigned][signed as usize],
+            modulus: q,
+            n: 1,
+            secret: secret(q, signed, choice[0]),
+            input: choice[1..].to_vec(),
+            ..Call::default()
+        };
+        report.add(&call, compare(&call));
+    }
+}
+
+/// Every secret, mask and two plaintexts of dimension 2, packed; and every phase.
 fn packed(report: &mut Report, q: u32) {
     for choice in every(&[q, q, q, q, q, q]) {
         let pack = Call {
@@ -167,6 +164,10 @@ fn packed(report: &mut Report, q: u32) {
         };
         report.add(&open, compare(&open));
     }
+}
+
+/// Every sample of a full packed ciphertext of dimension 2.
+fn samples(report: &mut Report, q: u32) {
     for choice in every(&[q, q, q, q, 2]) {
         let call = Call {
             kind: Kind::Extract,
@@ -238,8 +239,12 @@ pub fn everything(report: &mut Report, seed: u64) {
         keys(report, q);
     }
     for q in 4..=8 {
-        encryptions(report, q);
+        for signed in [false, true] {
+            encryptions(report, q, signed);
+            phases(report, q, signed);
+        }
         public(report, q);
+        samples(report, q);
     }
     for q in 4..=5 {
         packed(report, q);
