@@ -10,33 +10,46 @@ use supplied::rust;
 /// Calls within which a fault has to be noticed.
 const PATIENCE: u64 = 20_000;
 
+enum Plant {
+    /// In the call as the Rust gets it.
+    Given(fn(&mut Call)),
+    /// In the words that the Rust said.
+    Said(fn(&mut Vec<u32>)),
+}
+
 struct Fault {
     name: &'static str,
     /// The kinds that it can show in.
     kinds: &'static [Kind],
-    /// The call as the Rust gets it.
-    given: fn(&mut Call),
-    /// What the Rust said, altered.
-    said: fn(&mut Vec<u32>),
+    plant: Plant,
 }
 
-fn as_it_is(_: &mut Call) {}
-fn as_said(_: &mut Vec<u32>) {}
+const fn given(name: &'static str, kinds: &'static [Kind], alter: fn(&mut Call)) -> Fault {
+    let plant = Plant::Given(alter);
+    Fault { name, kinds, plant }
+}
+
+const fn said(name: &'static str, kinds: &'static [Kind], alter: fn(&mut Vec<u32>)) -> Fault {
+    let plant = Plant::Said(alter);
+    Fault { name, kinds, plant }
+}
+
+use Kind::*;
 
 #[rustfmt::skip]
 const FAULTS: [Fault; 12] = [
-    Fault { name: "the lowest bit of the last word", kinds: &Kind::ALL, given: as_it_is, said: flip },
-    Fault { name: "a word missing", kinds: &Kind::ALL, given: as_it_is, said: |words| words.truncate(words.len().saturating_sub(1)) },
-    Fault { name: "two words of a ciphertext exchanged", kinds: &[Kind::EncryptEncoded, Kind::SwitchBatch], given: as_it_is, said: |words| words.reverse() },
-    Fault { name: "a digit one higher", kinds: &[Kind::Digits], given: as_it_is, said: |words| if let Some(word) = words.first_mut() { *word = word.wrapping_add(1) } },
-    Fault { name: "one level fewer", kinds: &[Kind::Digits, Kind::Generate], given: |call| call.levels = call.level_count().saturating_sub(1).max(1) as u32, said: as_said },
-    Fault { name: "masks in another order", kinds: &[Kind::Generate, Kind::PackEncoded], given: |call| call.masks.reverse(), said: as_said },
-    Fault { name: "errors in another order", kinds: &[Kind::PublicEncoded, Kind::Generate], given: |call| call.errors.reverse(), said: as_said },
-    Fault { name: "masks and errors exchanged", kinds: &[Kind::EncryptEncoded, Kind::PublicKey], given: exchange, said: as_said },
-    Fault { name: "the other embedding", kinds: &[Kind::Encode, Kind::EncryptMessage], given: |call| call.centered = (call.centered == 0) as u32, said: as_said },
-    Fault { name: "coefficients of the other sign", kinds: &[Kind::PublicEncoded, Kind::PublicMessage], given: |call| call.coefficients.iter_mut().for_each(|c| *c = -*c), said: as_said },
-    Fault { name: "the sample of another body", kinds: &[Kind::Extract], given: |call| call.index = call.index.saturating_sub(1), said: as_said },
-    Fault { name: "the last body of a batch taken as 0", kinds: &[Kind::SwitchBatch], given: |call| if let Some(word) = call.input.last_mut() { *word = 0 }, said: as_said },
+    said("the lowest bit of the last word", &Kind::ALL, flip),
+    said("a word missing", &Kind::ALL, |words| words.truncate(words.len().saturating_sub(1))),
+    said("the words of a ciphertext turned round", &[EncryptEncoded, SwitchBatch], |words| words.reverse()),
+    said("a digit one higher", &[Digits], |words| if let Some(word) = words.first_mut() { *word = word.wrapping_add(1) }),
+    given("one level fewer", &[Digits, Generate], |call| call.levels = call.level_count().saturating_sub(1).max(1) as u32),
+    given("masks in another order", &[Generate, PackEncoded], |call| call.masks.reverse()),
+    given("errors in another order", &[PublicEncoded, Generate], |call| call.errors.reverse()),
+    given("a mask word and an error exchanged", &[EncryptEncoded, PublicKey], exchange),
+    given("the other embedding", &[Encode, EncryptMessage], |call| call.centered = (call.centered == 0) as u32),
+    given("coefficients of the other sign", &[PublicEncoded, PublicMessage], |call| call.coefficients.iter_mut().for_each(|c| *c = -*c)),
+    given("the sample of another body", &[Extract], |call| call.index = call.index.saturating_sub(1)),
+    given("the last body of a batch taken as 0", &[SwitchBatch], |call| if let Some(word) = call.input.last_mut() { *word = 0 }),
 ];
 
 fn flip(words: &mut Vec<u32>) {
@@ -55,13 +68,15 @@ fn exchange(call: &mut Call) {
 
 fn planted(fault: &Fault, call: &Call) -> Said {
     let mut call = call.clone();
-    (fault.given)(&mut call);
-    match rust::said(&call) {
-        Said::Words(mut words) => {
-            (fault.said)(&mut words);
+    if let Plant::Given(alter) = fault.plant {
+        alter(&mut call);
+    }
+    match (rust::said(&call), &fault.plant) {
+        (Said::Words(mut words), Plant::Said(alter)) => {
+            alter(&mut words);
             Said::Words(words)
         }
-        other => other,
+        (said, _) => said,
     }
 }
 
