@@ -49,17 +49,18 @@ fn main() {
     }
     let seed = number(first, 1);
     let calls = number(words.next(), 10_000_000);
-    let mut report = Report::default();
-    small::everything(&mut report, seed);
-    report.print("everything small");
-    let exhaustive = report.calls();
-    random(&mut report, seed, calls);
-    report.print(&format!("with {calls} random calls, seed {seed}"));
-    report.print_refusals();
+    let (mut small, mut drawn) = (Report::default(), Report::default());
+    small::everything(&mut small, seed);
+    small.print("everything small");
+    random(&mut drawn, seed, calls);
+    drawn.print(&format!("random, seed {seed}"));
+    drawn.print_refusals();
+    let different = small.different + drawn.different;
     println!(
-        "{} calls compared: {exhaustive} of everything small, {calls} random; {} different",
-        report.calls(),
-        report.different
+        "{} calls compared: {} of everything small, {} random; {different} different",
+        small.calls() + drawn.calls(),
+        small.calls(),
+        drawn.calls()
     );
-    std::process::exit((report.different != 0) as i32);
+    std::process::exit((different != 0) as i32);
 }

@@ -27,6 +27,8 @@ pub struct Report {
     counts: BTreeMap<Kind, Counts>,
     /// Calls to which one check alone applies, by it and by what the Rust did.
     refusals: BTreeMap<(Check, Option<Does>), Seen>,
+    /// Refused calls that the Rust was asked, too.
+    asked: u64,
     pub different: u64,
 }
 
@@ -43,6 +45,7 @@ impl Report {
             }
             Outcome::Refused(checks, does) => {
                 counts.refused += 1;
+                self.asked += does.is_some() as u64;
                 if let [check] = checks[..] {
                     self.see(check, does, call);
                 }
@@ -96,7 +99,8 @@ impl Report {
     /// What the Rust did where 01 refuses for one reason alone.
     pub fn print_refusals(&self) {
         println!(
-            "what the Rust does where 01 refuses for one reason alone, and the smallest call:"
+            "the Rust was asked {} of the refused calls, too; where one check alone applies, with the smallest call:",
+            self.asked
         );
         for ((check, does), seen) in &self.refusals {
             let does = match does {
