@@ -1,14 +1,13 @@
 //! The proved library, called through C with the operands of a `Call`.
 
-use supplied::call::{Call, Kind, Said};
-
-/// Stands in every output before the call; a refused call leaves it.
-const FILL: u32 = 0xaaaa_aaaa;
-
 #[path = "../include/saigagalena.rs"]
 mod saigagalena;
 
 use saigagalena::*;
+use supplied::call::{Call, Kind, Said};
+
+/// Stands in every output before the call; a refused call leaves it.
+const FILL: u32 = 0xaaaa_aaaa;
 
 /// A call that writes: its numbers, its runs, perhaps one number more, and the output.
 macro_rules! writing {
