@@ -5,27 +5,16 @@
 //! least of a side's rounds. Ours checks every length and every word of key and input; the Rust lengths only.
 
 mod ported;
+#[path = "../include/saigagalena.rs"]
+mod saigagalena;
 
 use ported::{
     ApproxSignedBasis, Barrett, KeySwitchingKey, LowBits, Native, Remainder, WideBarrett,
 };
+use saigagalena::saigagalena_key_switch_batch;
 use std::ffi::c_void;
 
 unsafe extern "C" {
-    fn saigagalena_key_switch_batch(
-        modulus: u32,
-        base_log: u32,
-        levels: u32,
-        n: usize,
-        m: usize,
-        key: *const u32,
-        key_len: usize,
-        input: *const u32,
-        input_len: usize,
-        out: *mut u32,
-        out_len: usize,
-    ) -> u32;
-
     fn clock_gettime(clock: i32, time: *mut [i64; 2]) -> i32;
     fn pthread_attr_init(attr: *mut ThreadAttributes) -> i32;
     fn pthread_attr_setstack(attr: *mut ThreadAttributes, lowest: *mut c_void, size: usize) -> i32;

@@ -1,6 +1,6 @@
 """The supplied Rust beside document 01, word for word.
 
-    python3 oracle/compare.py PROGRAM SEED [PROVED]
+    python3 oracle/compare.py PROGRAM SEED
 
 PROGRAM is what scripts/oracle.sh builds; oracle/README.md has its calls. Three comparisons:
 
@@ -9,8 +9,7 @@ PROGRAM is what scripts/oracle.sh builds; oracle/README.md has its calls. Three 
 - digits of every word, for every q up to 200, every base log and every level count;
 - random key-switching keys, switches and batches against 01's formulas, from SEED on.
 
-PROVED is oracle/served.rs over the proved library; it answers decodings and batches, and what it answers is
-compared with the Rust directly, also for larger batches.
+The proved library itself is put beside the Rust by oracle/random.rs.
 
 The last lines say what the Rust did with calls that 01 refuses; docs/DIFFERENCES.md is about those.
 """
@@ -133,16 +132,13 @@ def stored_digits(rust, tally):
     flush()
 
 
-def stored_codec(rust, tally, proved):
+def stored_codec(rust, tally):
     data = (ROOT / "crates/codec_vectors/data/codec.bin").read_bytes()
     at = 0
 
     def compare(name, number, expected, *record):
         if number == 0:
-            got = rust.words(*record)
-            tally.same(name, record, expected, got)
-            if proved and record[0] == 11:
-                tally.same("decodings, the proved library and the Rust", record, proved.words(*record), got)
+            tally.same(name, record, expected, rust.words(*record))
         elif expressible(record[1]):
             tally.refused(number, rust.say(*record)[0])
 
@@ -246,7 +242,7 @@ def stored_lwe(rust, tally):
             tally.same(NAMES[kind], (head, operands), (ANSWERED, expected), got)
 
 
-def stored_switches(rust, tally, proved):
+def stored_switches(rust, tally):
     for head, (a, b, c, d, e), after in stored_calls("switch.bin"):
         kind, explicit, q, n = head[:4]
         m, log, levels = head[16:]
@@ -257,10 +253,7 @@ def stored_switches(rust, tally, proved):
             name, record = "stored single switches" if kind == 30 else "stored batches", (kind + 21, *basis, n, m, a, b)
         else:
             continue
-        got = rust.words(*record)
-        tally.same(name, record, after, got)
-        if proved and kind == 31:
-            tally.same("stored batches, the proved library and the Rust", record, proved.words(*record), got)
+        tally.same(name, record, after, rust.words(*record))
 
 
 def every_word(rust, tally, most):
@@ -283,7 +276,7 @@ def random_basis(draw):
     return modulus, log, draw.choose([0, 1, full, 1 + draw.below(full)])
 
 
-def switches(rust, tally, seed, rounds, proved):
+def switches(rust, tally, seed, rounds):
     example = Basis(17, 2)
     assert switched(example, 1, 1, [3, 5, 4, 13], [9, 12]) == switched(example, 1, 1, [3, 5, 4, 13], [10, 12]) == [10, 11]
     draw = Draw(seed)
@@ -307,37 +300,19 @@ def switches(rust, tally, seed, rounds, proved):
             got = rust.words(51, *record, n, m, key, rows[0])
             tally.same("single switches", (*record, n, m, key, rows[0]), expected[0], got)
         batch = [52, *record, n, m, key, [w for x in rows for w in x]]
-        got = rust.words(*batch)
-        tally.same("batches", batch, [w for x in expected for w in x], got)
-        if proved:
-            tally.same("batches, the proved library and the Rust", batch, proved.words(*batch), got)
-
-
-def larger_batches(rust, tally, seed, rounds, proved):
-    """No formula in Python: the proved library beside the Rust."""
-    draw = Draw(seed)
-    for _ in range(rounds):
-        modulus, log, levels = random_basis(draw)
-        L = levels or Basis(modulus, log).full
-        n, m, count = 1 + draw.below(80), 1 + draw.below(80), draw.below(30)
-        pick = Pick(draw, modulus, n)
-        batch = [52, modulus, log, levels, n, m, pick.words(n * L * (m + 1)), pick.words(count * (n + 1))]
-        tally.same("larger batches, the proved library and the Rust", batch[:6], proved.words(*batch), rust.words(*batch))
+        tally.same("batches", batch, [w for x in expected for w in x], rust.words(*batch))
 
 
 def main():
-    if len(sys.argv) not in (3, 4):
-        sys.exit("usage: compare.py PROGRAM SEED [PROVED]")
+    if len(sys.argv) != 3:
+        sys.exit("usage: compare.py PROGRAM SEED")
     rust, seed, tally = Program(sys.argv[1]), int(sys.argv[2]), Tally()
-    proved = Program(sys.argv[3]) if len(sys.argv) == 4 else None
     stored_digits(rust, tally)
-    stored_codec(rust, tally, proved)
+    stored_codec(rust, tally)
     stored_lwe(rust, tally)
-    stored_switches(rust, tally, proved)
+    stored_switches(rust, tally)
     every_word(rust, tally, 200)
-    switches(rust, tally, seed, 2000, proved)
-    if proved:
-        larger_batches(rust, tally, seed, 200, proved)
+    switches(rust, tally, seed, 2000)
     for name, count in tally.compared.items():
         print(f"{count:8} {name}")
     print(f"{sum(tally.compared.values())} compared, {tally.different} different\n")

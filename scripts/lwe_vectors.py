@@ -209,6 +209,35 @@ class Pick:
         return Codec(self.modulus, self.t)
 
 
+# --- Faults, for the calls here and those of switch_vectors.py ---
+
+
+def replaced(k, name, bad, draw):
+    """A bad number in the first place, in the last and in any."""
+    words = getattr(k, name)
+    if not words:
+        return
+    for w in bad:
+        for place in sorted({0, len(words) - 1, draw.below(len(words))}):
+            yield replace(k, **{name: words[:place] + [w] + words[place + 1 :]})
+
+
+def other_lengths(k, names):
+    """One number too many, one too few, none."""
+    for name in names:
+        words = getattr(k, name)
+        yield replace(k, **{name: words + [0]})
+        if words:
+            yield replace(k, **{name: words[:-1]})
+            yield replace(k, **{name: []})
+
+
+def words_not_below_q(k, name, draw):
+    """Words, or in d signed numbers, of q and more."""
+    bad, low, high = ((k.q, -k.q, LOWEST, HIGHEST), LOWEST, HIGHEST) if name == "d" else ((k.q, WORD_MAX), 0, WORD_MAX)
+    yield from replaced(k, name, [w for w in bad if abs(w) >= k.q and low <= w <= high], draw)
+
+
 # --- The calls ---
 
 
@@ -259,42 +288,25 @@ class Call:
         elif number == 13:
             yield from (replace(k, E=E) for E in (LIMIT + 1, WORD_MAX, q, q + 1) if E <= WORD_MAX)
         elif number in (9, 10, 11, 12):
-            for name in self.fields[number]:
-                words = getattr(k, name)
-                yield replace(k, **{name: words + [0]})
-                if words:
-                    yield replace(k, **{name: words[:-1]})
-                    yield replace(k, **{name: []})
+            yield from other_lengths(k, self.fields[number])
         elif number == 14:
             for name in self.fields[14]:
                 if name == "value":
                     yield from (replace(k, value=w) for w in (q, WORD_MAX) if q <= w <= WORD_MAX)
-                    continue
-                signed = name == "d"
-                bad = (q, -q, LOWEST, HIGHEST) if signed else (q, WORD_MAX)
-                low, high = (LOWEST, HIGHEST) if signed else (0, WORD_MAX)
-                yield from self.replaced(k, name, [w for w in bad if abs(w) >= q and low <= w <= high], draw)
+                else:
+                    yield from words_not_below_q(k, name, draw)
         elif number == 15:
             for name in self.fields[15]:
                 limit = k.E + 1 if name == "e" else 2
                 bad = [w for w in (limit, -limit, LOWEST, HIGHEST) if LOWEST <= w <= HIGHEST and abs(w) >= limit]
-                yield from self.replaced(k, name, bad, draw)
+                yield from replaced(k, name, bad, draw)
         elif number == 16:
             bad = [w for w in (k.t, k.t + 1, q, WORD_MAX) if k.t <= w <= WORD_MAX]
             for name in self.fields[16]:
                 if name == "value":
                     yield from (replace(k, value=w) for w in bad)
                 else:
-                    yield from self.replaced(k, name, bad, draw)
-
-    def replaced(self, k, name, bad, draw):
-        """A bad number in the first place, in the last and in any."""
-        words = getattr(k, name)
-        if not words:
-            return
-        for w in bad:
-            for place in sorted({0, len(words) - 1, draw.below(len(words))}):
-                yield replace(k, **{name: words[:place] + [w] + words[place + 1 :]})
+                    yield from replaced(k, name, bad, draw)
 
 
 class Dimension(Call):
@@ -837,13 +849,18 @@ def record(call, k):
     assert call.kind > 26 or not {2, 6} <= applying
     refusal = min(applying, default=0)
     answer, after = (0, k.out) if refusal else call.result(k)
-    assert len(after) == len(k.out) and all(0 <= w < 2**32 for w in after)
     if not refusal and call.kind > 5:
         assert not words_fail(k.q, after) and answer < k.q
+    return written(call.kind, k, refusal, answer, after)
+
+
+def written(kind, k, refusal, answer, after):
+    """The record of a call of this kind, with what it answered."""
+    assert len(after) == len(k.out) and all(0 <= w < 2**32 for w in after)
     lists = (k.a, k.b, k.c, k.d, k.e, k.out)
     assert all(len(words) <= room for words, room in zip(lists, ROOMS))
     head = HEAD.pack(
-        call.kind, k.modulus is not None, k.modulus or 0, k.n, k.t, k.E, k.centered, refusal, k.value, answer,
+        kind, k.modulus is not None, k.modulus or 0, k.n, k.t, k.E, k.centered, refusal, k.value, answer,
         *map(len, lists), k.m, k.base_log, k.levels,
     )
     signed = [w % 2**32 for w in k.d + k.e]

@@ -1,11 +1,16 @@
 #!/bin/sh
 # Builds the supplied Rust files, byte for byte, over the shims of oracle/crates (oracle/README.md says what
-# those supply), offline, with rustc alone. No part of the gate.
-#   scripts/oracle.sh [SEED]     builds target/oracle/oracle and compares it with document 01
-#   scripts/oracle.sh build      builds it only
-# The supplied files stand in ../shared/docs/src, or where PRIMUS_SRC says. Where ARCHIVE names the proved
-# library (rt staticlib saigagalena writes target/staticlib/libsaigagalena.a), its C calls are compared too.
+# those supply), offline, with rustc alone, and compares them with document 01 and with the proved library.
+# No part of the gate.
+#   scripts/oracle.sh [SEED [CALLS]]     everything: stored vectors, the stored sample, everything small, random calls
+#   scripts/oracle.sh faults [SEED]      plants faults in the comparison and says whether each is noticed
+#   scripts/oracle.sh sample [--check]   writes the stored sample of the Rust's answers, or asks again and compares
+#   scripts/oracle.sh build              builds target/oracle/oracle only
+# The supplied files stand in ../shared/docs/src, or where PRIMUS_SRC says. ARCHIVE names the proved library;
+# target/staticlib/libsaigagalena.a is built by rt staticlib where it is not there.
 set -eu
+archive=${ARCHIVE:-}
+case $archive in '' | /*) ;; *) archive=$PWD/$archive ;; esac
 cd "$(dirname "$0")/.."
 src=${PRIMUS_SRC:-../shared/docs/src}/crates
 build=target/oracle
@@ -24,12 +29,14 @@ while read -r file; do
     cmp "$src/$file" "$build/crates/$file"
 done <"$build/supplied"
 echo "oracle: $(wc -l <"$build/supplied" | tr -d ' ') supplied files in place, byte for byte"
-# Overflow and debug assertions are on: admitted input meets none.
-compile() {
+# Overflow checks and debug assertions are on: admitted input meets none.
+rust() {
+    rustc --edition 2024 -C opt-level=2 -C debug-assertions=on -C overflow-checks=on -L dependency="$build" "$@"
+}
+crate() {
     kind=$1 name=$2
     shift 2
-    rustc --edition 2024 --crate-type "$kind" --crate-name "$name" -C opt-level=2 -C debug-assertions=on -C overflow-checks=on \
-        --cap-lints "${LINTS:-allow}" -L dependency="$build" --out-dir "$build" "$build/crates/$name/src/lib.rs" "$@"
+    rust --crate-type "$kind" --crate-name "$name" --cap-lints "${LINTS:-allow}" --out-dir "$build" "$build/crates/$name/src/lib.rs" "$@"
 }
 lib() {
     name=$1
@@ -42,9 +49,9 @@ lib() {
         esac
     done
     # shellcheck disable=SC2086
-    compile rlib "$name" $externs
+    crate rlib "$name" $externs
 }
-compile proc-macro thiserror --extern proc_macro
+crate proc-macro thiserror --extern proc_macro
 lib zeroize
 lib rand
 lib primus_integer rand
@@ -62,14 +69,28 @@ for need in rand primus_decompose primus_distr primus_encoding primus_lattice pr
     externs="$externs --extern $need=$build/lib$need.rlib"
 done
 # shellcheck disable=SC2086
-rustc --edition 2024 -C opt-level=2 -C debug-assertions=on -C overflow-checks=on -L dependency="$build" $externs \
-    oracle/driver.rs -o "$build/oracle"
+rust --crate-type rlib --crate-name supplied $externs --out-dir "$build" oracle/supplied.rs
+rust --extern supplied="$build/libsupplied.rlib" oracle/driver.rs -o "$build/oracle"
 echo "oracle: $build/oracle is built"
-[ "${1:-}" != build ] || exit 0
-proved=
-if [ -n "${ARCHIVE:-}" ]; then
-    cp "$ARCHIVE" "$build/libsaigagalena.a"
-    proved=$build/served
-    rustc --edition 2024 -C opt-level=2 -L native="$build" -l static=saigagalena oracle/served.rs -o "$proved"
+case ${1:-} in
+    build) exit 0 ;;
+    sample)
+        shift
+        exec python3 oracle/sample.py "$build/oracle" "$@"
+        ;;
+esac
+if [ -z "$archive" ]; then
+    archive=target/staticlib/libsaigagalena.a
+    [ -e "$archive" ] || rt staticlib saigagalena >"$build/staticlib.log" 2>&1 || { cat "$build/staticlib.log"; exit 1; }
 fi
-python3 oracle/compare.py "$build/oracle" "${1:-1}" ${proved:+"$proved"}
+cp "$archive" "$build/libsaigagalena.a"
+rust --extern supplied="$build/libsupplied.rlib" -L native="$build" -l static=saigagalena oracle/random.rs -o "$build/random"
+echo "oracle: $build/random is built over the proved library"
+if [ "${1:-}" = faults ]; then
+    shift
+    exec "$build/random" faults "$@"
+fi
+python3 oracle/compare.py "$build/oracle" "${1:-1}"
+python3 oracle/sample.py "$build/oracle" --check
+"$build/random" "${1:-1}" ${2:+"$2"}
+echo "oracle: no difference"

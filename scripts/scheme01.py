@@ -121,11 +121,12 @@ class Draw:
         return items[self.below(len(items))]
 
 
-def write_or_check(files):
-    """Writes path -> bytes, or with --check exits 1 where a file differs."""
-    if sys.argv[1:] not in ([], ["--check"]):
+def write_or_check(files, words=None):
+    """Writes path -> bytes, or with --check exits 1 where a file differs; words are those of the command."""
+    words = sys.argv[1:] if words is None else words
+    if words not in ([], ["--check"]):
         sys.exit(f"usage: {Path(sys.argv[0]).name} [--check]")
-    check = sys.argv[1:] == ["--check"]
+    check = words == ["--check"]
     different = 0
     for name, content in files.items():
         path = ROOT / name

@@ -17,7 +17,8 @@ from dataclasses import dataclass, replace
 sys.dont_write_bytecode = True  # importing must leave no file in the repository
 
 import lwe_vectors
-from lwe_vectors import HEAD, HIGHEST, LIMIT, LOWEST, WORD_MAX, encrypted, outside, phase_of, record, rows_of, words_fail
+from lwe_vectors import HEAD, HIGHEST, LIMIT, LOWEST, WORD_MAX, encrypted, other_lengths, outside, phase_of, record, replaced
+from lwe_vectors import rows_of, words_fail, words_not_below_q
 from scheme01 import Basis, Draw, value_bits, write_or_check
 
 OPEN = WORD_MAX
@@ -125,29 +126,13 @@ class Call:
         elif number == 13:
             yield from (replace(k, E=x) for x in (LIMIT + 1, WORD_MAX, q) if x <= WORD_MAX)
         elif number in (9, 10, 11, 12):
-            for name in self.fields[number]:
-                words = getattr(k, name)
-                yield replace(k, **{name: words + [0]})
-                if words:
-                    yield replace(k, **{name: words[:-1]})
-                    yield replace(k, **{name: []})
+            yield from other_lengths(k, self.fields[number])
         elif number == 14:
             for name in self.fields[14]:
-                bad = (q, -q, LOWEST, HIGHEST) if name == "d" else (q, WORD_MAX)
-                low, high = (LOWEST, HIGHEST) if name == "d" else (0, WORD_MAX)
-                yield from self.replaced(k, name, [w for w in bad if abs(w) >= q and low <= w <= high], draw)
+                yield from words_not_below_q(k, name, draw)
         elif number == 15:
             bad = [w for w in (k.E + 1, -k.E - 1, LOWEST) if abs(w) > k.E and LOWEST <= w <= HIGHEST]
-            yield from self.replaced(k, "e", bad, draw)
-
-    def replaced(self, k, name, bad, draw):
-        """A bad number in the first place, in the last and in any."""
-        words = getattr(k, name)
-        if not words:
-            return
-        for w in bad:
-            for place in sorted({0, len(words) - 1, draw.below(len(words))}):
-                yield replace(k, **{name: words[:place] + [w] + words[place + 1 :]})
+            yield from replaced(k, "e", bad, draw)
 
 
 class Parameters(Call):

@@ -1,4 +1,5 @@
-// Compares the codec with data/codec.bin, which scripts/codec_vectors.py makes from document 01 and describes.
+// Compares the codec with data/codec.bin, which scripts/codec_vectors.py makes from document 01 and describes, and with
+// data/oracle.bin, which holds what the Rust answered (oracle/sample.py).
 mod bytes;
 mod slices;
 mod values;
@@ -94,12 +95,8 @@ fn next(s: Score, right: bool) -> Score {
     }
 }
 
-fn all(fd: i32) -> Score {
-    let mut s = Score {
-        compared: 0,
-        wrong: 0,
-        first: 0,
-    };
+fn all(fd: i32, before: Score) -> Score {
+    let mut s = before;
     let mut turns = u64::MAX;
     while turns > 0 {
         let t = turn(fd);
@@ -114,15 +111,26 @@ fn all(fd: i32) -> Score {
     s
 }
 
-fn main() {
-    let path = b"codec.bin";
+// The records of a file, counted on; a file that cannot be opened is one that differs.
+fn file(path: &[u8], s: Score) -> Score {
     let fd = os::open_read(path);
     if fd < 0 {
         os::fail(path);
-        return;
+        return next(s, false);
     }
-    let s = all(fd);
+    let after = all(fd, s);
     libc::close(fd);
+    after
+}
+
+fn main() {
+    let none = Score {
+        compared: 0,
+        wrong: 0,
+        first: 0,
+    };
+    let made = file(b"codec.bin", none);
+    let s = file(b"oracle.bin", made);
     io::write_all(STDOUT_FILENO, b"compared ");
     io::print_decimal(STDOUT_FILENO, s.compared as u64);
     io::write_all(STDOUT_FILENO, b"\nwrong ");

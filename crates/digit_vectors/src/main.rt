@@ -1,4 +1,5 @@
-// Compares every record of digits.bin, which scripts/digits_vectors.py makes from document 01 alone, with the library's answers.
+// Compares the library's answers with data/digits.bin, which scripts/digits_vectors.py makes from document 01 alone, and with
+// data/oracle.bin, which holds what the Rust answered (oracle/sample.py).
 mod basis;
 mod bytes;
 mod word;
@@ -94,13 +95,8 @@ fn one(fd: i32, s: State) -> Turn {
     counted(s, false, false)
 }
 
-fn all(fd: i32) -> State {
-    let mut s = State {
-        held: Held::Nothing,
-        bases: 0,
-        words: 0,
-        wrong: 0,
-    };
+fn all(fd: i32, before: State) -> State {
+    let mut s = before;
     let mut turns = u64::MAX;
     while turns > 0 {
         let t = one(fd, s);
@@ -119,15 +115,27 @@ fn print(name: &[u8], n: u64) {
     io::write_all(STDOUT_FILENO, b"\n");
 }
 
-fn main() {
-    let path = b"digits.bin";
+// The records of a file, counted on; a file that cannot be opened is one that is wrong.
+fn file(path: &[u8], s: State) -> State {
     let fd = os::open_read(path);
     if fd < 0 {
         os::fail(path);
-        return;
+        return counted(s, false, false).state;
     }
-    let s = all(fd);
+    let after = all(fd, s);
     libc::close(fd);
+    after
+}
+
+fn main() {
+    let none = State {
+        held: Held::Nothing,
+        bases: 0,
+        words: 0,
+        wrong: 0,
+    };
+    let made = file(b"digits.bin", none);
+    let s = file(b"oracle.bin", made);
     print(b"bases ", s.bases);
     print(b"words ", s.words);
     print(b"wrong ", s.wrong);

@@ -1,5 +1,5 @@
 // Compares the calls with data/lwe.bin and data/switch.bin, which scripts/lwe_vectors.py and scripts/switch_vectors.py make from
-// document 01 and describe.
+// document 01 and describe, and with data/oracle.bin, which holds what the Rust answered (oracle/sample.py).
 mod lattice;
 mod packed;
 mod parameters;
@@ -221,8 +221,9 @@ fn main() {
     let mut counts = [0u32; 40];
     let encryption = file(b"lwe.bin", &mut counts);
     let switching = file(b"switch.bin", &mut counts);
+    let rust = file(b"oracle.bin", &mut counts);
     print(counts);
-    if encryption && switching {
+    if encryption && switching && rust {
         io::write_all(STDOUT_FILENO, b"all equal\n");
     }
 }

@@ -1,0 +1,40 @@
+//! The calls of saigagalena.h for Rust, as far as the oracle and the measurements use them.
+//! The header says what holds of each.
+
+// No program uses all of them.
+#![allow(dead_code)]
+
+#[rustfmt::skip]
+unsafe extern "C" {
+    pub fn saigagalena_basis(modulus: u32, base_log: u32, levels: u32, out: *mut u32, out_len: usize) -> u32;
+    pub fn saigagalena_reading(modulus: u32, base_log: u32, levels: u32, word: u32, out: *mut i64, out_len: usize) -> u32;
+    pub fn saigagalena_decompose(modulus: u32, base_log: u32, levels: u32, input: *const u32, input_len: usize, out: *mut u32, out_len: usize) -> u32;
+    pub fn saigagalena_encode(modulus: u32, t: u32, centered: u32, message: u32) -> u64;
+    pub fn saigagalena_decode(modulus: u32, t: u32, word: u32) -> u64;
+    pub fn saigagalena_encode_slice(modulus: u32, t: u32, centered: u32, messages: *const u32, messages_len: usize, out: *mut u32, out_len: usize) -> u32;
+    pub fn saigagalena_decode_slice(modulus: u32, t: u32, words: *const u32, words_len: usize, out: *mut u32, out_len: usize) -> u32;
+    pub fn saigagalena_encrypt_encoded(modulus: u32, n: usize, bound: u32, secret: *const u32, secret_len: usize, mask: *const u32, mask_len: usize, errors: *const i32, errors_len: usize, plaintext: u32, out: *mut u32, out_len: usize) -> u32;
+    pub fn saigagalena_encrypt_encoded_signed(modulus: u32, n: usize, bound: u32, secret: *const i32, secret_len: usize, mask: *const u32, mask_len: usize, errors: *const i32, errors_len: usize, plaintext: u32, out: *mut u32, out_len: usize) -> u32;
+    pub fn saigagalena_encrypt_message(modulus: u32, n: usize, t: u32, bound: u32, centered: u32, secret: *const u32, secret_len: usize, mask: *const u32, mask_len: usize, errors: *const i32, errors_len: usize, message: u32, out: *mut u32, out_len: usize) -> u32;
+    pub fn saigagalena_encrypt_message_signed(modulus: u32, n: usize, t: u32, bound: u32, centered: u32, secret: *const i32, secret_len: usize, mask: *const u32, mask_len: usize, errors: *const i32, errors_len: usize, message: u32, out: *mut u32, out_len: usize) -> u32;
+    pub fn saigagalena_encrypt_message_batch(modulus: u32, n: usize, t: u32, bound: u32, centered: u32, secret: *const u32, secret_len: usize, masks: *const u32, masks_len: usize, errors: *const i32, errors_len: usize, messages: *const u32, messages_len: usize, out: *mut u32, out_len: usize) -> u32;
+    pub fn saigagalena_encrypt_encoded_packed(modulus: u32, n: usize, bound: u32, secret: *const u32, secret_len: usize, mask: *const u32, mask_len: usize, errors: *const i32, errors_len: usize, plaintexts: *const u32, plaintexts_len: usize, out: *mut u32, out_len: usize) -> u32;
+    pub fn saigagalena_encrypt_message_packed(modulus: u32, n: usize, t: u32, bound: u32, centered: u32, secret: *const u32, secret_len: usize, mask: *const u32, mask_len: usize, errors: *const i32, errors_len: usize, messages: *const u32, messages_len: usize, out: *mut u32, out_len: usize) -> u32;
+    pub fn saigagalena_decrypt_phase(modulus: u32, n: usize, bound: u32, secret: *const u32, secret_len: usize, ciphertext: *const u32, ciphertext_len: usize) -> u64;
+    pub fn saigagalena_decrypt_phase_signed(modulus: u32, n: usize, bound: u32, secret: *const i32, secret_len: usize, ciphertext: *const u32, ciphertext_len: usize) -> u64;
+    pub fn saigagalena_decrypt_message(modulus: u32, n: usize, t: u32, bound: u32, secret: *const u32, secret_len: usize, ciphertext: *const u32, ciphertext_len: usize) -> u64;
+    pub fn saigagalena_decrypt_message_signed(modulus: u32, n: usize, t: u32, bound: u32, secret: *const i32, secret_len: usize, ciphertext: *const u32, ciphertext_len: usize) -> u64;
+    pub fn saigagalena_decrypt_phase_batch(modulus: u32, n: usize, bound: u32, secret: *const u32, secret_len: usize, input: *const u32, input_len: usize, out: *mut u32, out_len: usize) -> u32;
+    pub fn saigagalena_decrypt_message_batch(modulus: u32, n: usize, t: u32, bound: u32, secret: *const u32, secret_len: usize, input: *const u32, input_len: usize, out: *mut u32, out_len: usize) -> u32;
+    pub fn saigagalena_decrypt_phase_packed(modulus: u32, n: usize, bound: u32, secret: *const u32, secret_len: usize, input: *const u32, input_len: usize, out: *mut u32, out_len: usize) -> u32;
+    pub fn saigagalena_decrypt_message_packed(modulus: u32, n: usize, t: u32, bound: u32, secret: *const u32, secret_len: usize, input: *const u32, input_len: usize, out: *mut u32, out_len: usize) -> u32;
+    pub fn saigagalena_public_key_generate(modulus: u32, n: usize, bound: u32, secret: *const u32, secret_len: usize, masks: *const u32, masks_len: usize, errors: *const i32, errors_len: usize, out: *mut u32, out_len: usize) -> u32;
+    pub fn saigagalena_public_key_generate_signed(modulus: u32, n: usize, bound: u32, secret: *const i32, secret_len: usize, masks: *const u32, masks_len: usize, errors: *const i32, errors_len: usize, out: *mut u32, out_len: usize) -> u32;
+    pub fn saigagalena_public_key_encrypt_encoded(modulus: u32, n: usize, bound: u32, key: *const u32, key_len: usize, errors: *const i32, errors_len: usize, coefficients: *const i32, coefficients_len: usize, plaintext: u32, out: *mut u32, out_len: usize) -> u32;
+    pub fn saigagalena_public_key_encrypt_message(modulus: u32, n: usize, t: u32, bound: u32, centered: u32, key: *const u32, key_len: usize, errors: *const i32, errors_len: usize, coefficients: *const i32, coefficients_len: usize, message: u32, out: *mut u32, out_len: usize) -> u32;
+    pub fn saigagalena_extract(modulus: u32, n: usize, input: *const u32, input_len: usize, index: usize, out: *mut u32, out_len: usize) -> u32;
+    pub fn saigagalena_key_generate(modulus: u32, base_log: u32, levels: u32, n: usize, m: usize, bound: u32, input_key: *const u32, input_key_len: usize, output_key: *const u32, output_key_len: usize, masks: *const u32, masks_len: usize, errors: *const i32, errors_len: usize, out: *mut u32, out_len: usize) -> u32;
+    pub fn saigagalena_key_generate_signed(modulus: u32, base_log: u32, levels: u32, n: usize, m: usize, bound: u32, input_key: *const i32, input_key_len: usize, output_key: *const u32, output_key_len: usize, masks: *const u32, masks_len: usize, errors: *const i32, errors_len: usize, out: *mut u32, out_len: usize) -> u32;
+    pub fn saigagalena_key_switch(modulus: u32, base_log: u32, levels: u32, n: usize, m: usize, key: *const u32, key_len: usize, input: *const u32, input_len: usize, out: *mut u32, out_len: usize) -> u32;
+    pub fn saigagalena_key_switch_batch(modulus: u32, base_log: u32, levels: u32, n: usize, m: usize, key: *const u32, key_len: usize, input: *const u32, input_len: usize, out: *mut u32, out_len: usize) -> u32;
+}
