@@ -31,6 +31,17 @@ abbrev pub heldTally : S.Tally → Tally
 heldTally S.Absent = Absent
 heldTally (S.Present a) = Present a
 
+-- a tally as one number: 2^64 − 1 where there is none; every other number above 2^32 is refused by 17
+abbrev pub noTally : ℕ
+noTally = 2 ^ 64 - 1
+
+abbrev pub tallyFor : ℕ → Tally
+tallyFor a = pick (eqb a noTally) Absent (Present a)
+
+abbrev pub numberOfTally : Tally → ℕ
+numberOfTally Absent = noTally
+numberOfTally (Present a) = a
+
 -- 17: "exceeds 2^32"
 abbrev pub cap : ℕ
 cap = 2 ^ 32

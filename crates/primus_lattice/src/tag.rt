@@ -5,7 +5,7 @@ ghost use Prim.Native.Nat.{_+_, _*_, _^_, _<_, _≤_};
 ghost use lib.Dec.{ltb};
 ghost use Rattle.scheme.specs.Tally.{addTally, good, tallyFails};
 ghost use Rattle.primus_reduce.specs.Ring.{sizeOf};
-ghost use Rattle.primus_lattice.specs.Answers.{meantTally, heldTally, cap, tagAnswer, markAnswer};
+ghost use Rattle.primus_lattice.specs.Answers.{meantTally, heldTally, tallyFor, numberOfTally, cap, tagAnswer, markAnswer};
 use primus_reduce::Modulus;
 
 // A public-key, packed or switched ciphertext has none.
@@ -28,6 +28,28 @@ pub enum LweTagAnswer {
 pub enum MarkAnswer {
     Mark(bool),
     Refused(u32),
+}
+
+impl Tally {
+    // The tally that one number stands for: 2^64 − 1 is none. No tally is lost: every other number above 2^32 is refused by 17.
+    pub fn from_number(number: u64) -> Tally
+        ensures { λ r. ⌜ r ≡ tallyFor number ⌝ }
+    {
+        if number == u64::MAX {
+            return Tally::Absent;
+        }
+        Tally::Present(number)
+    }
+
+    // That number.
+    pub fn number(self) -> u64
+        ensures { λ r. ⌜ r ≡ numberOfTally self ⌝ }
+    {
+        match self {
+            Tally::Absent => u64::MAX,
+            Tally::Present(a) => a,
+        }
+    }
 }
 
 // 17, a tally that is given.

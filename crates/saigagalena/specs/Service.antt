@@ -1,18 +1,15 @@
 -- Answers of one number: "gets one 64-bit number: the message, or 2^32 plus the refusal number."
-use mathlib.Core.Bool.{Bool}
-use Prim.Native.Nat.{ℕ, _+_, _-_, _^_}
-use lib.Dec.{eqb}
+use Prim.Native.Nat.{ℕ, _+_, _^_}
 use Rattle.scheme.specs.Numbers.{pick}
 use Rattle.primus_reduce.specs.Ring.{modulusFor}
 use Rattle.primus_encoding.specs.declared.WordAnswer.{WordAnswer}
 use Rattle.primus_encoding.specs.declared.WordAnswer.the-variants.{Word, Refused}
 use Rattle.primus_encoding.specs.Answers.{encodeAnswer, decodeAnswer}
-use Rattle.primus_lattice.specs.declared.tag.Tally.{Tally}
-use Rattle.primus_lattice.specs.declared.tag.Tally.the-variants.{Absent, Present}
 use Rattle.primus_lattice.specs.declared.tag.LweTagAnswer.{LweTagAnswer}
 use Rattle.primus_lattice.specs.declared.tag.LweTagAnswer.the-variants as T
 use Rattle.primus_lattice.specs.declared.tag.MarkAnswer.{MarkAnswer}
 use Rattle.primus_lattice.specs.declared.tag.MarkAnswer.the-variants as K
+use Rattle.primus_lattice.specs.Answers.{numberOfTally}
 use Rattle.primus_lwe.specs.declared.secret_key.borrowed.PhaseAnswer.{PhaseAnswer}
 use Rattle.primus_lwe.specs.declared.secret_key.borrowed.PhaseAnswer.the-variants as P
 use Rattle.primus_lwe.specs.declared.secret_key.message.MessageAnswer.{MessageAnswer}
@@ -43,17 +40,7 @@ decodeNumber n t p = answerNumber (decodeAnswer t (modulusFor n) p)
 abbrev pub encodeNumber : ℕ → ℕ → ℕ → ℕ → ℕ
 encodeNumber n t centered m = answerNumber (encodeAnswer t (modulusFor n) (embeddingFor centered) m)
 
--- a tally as one number: 2^64 − 1 where there is none; every other number above 2^32 is refused by 17
-abbrev pub noTally : ℕ
-noTally = 2 ^ 64 - 1
-
-abbrev pub tallyFor : ℕ → Tally
-tallyFor a = pick (eqb a noTally) Absent (Present a)
-
-abbrev pub numberOfTally : Tally → ℕ
-numberOfTally Absent = noTally
-numberOfTally (Present a) = a
-
+-- the tally of a sum
 abbrev pub tagNumber : LweTagAnswer → ℕ
 tagNumber (T.Tag g) = numberOfTally (g .tally)
 tagNumber (T.Refused r) = refusedNumber r

@@ -4,8 +4,8 @@ ghost use lib.ListN.{length};
 ghost use Rattle.scheme.specs.Lwe.{addWords, extracted};
 ghost use Rattle.scheme.specs.Checks.{firstOf, Answers};
 ghost use Rattle.primus_reduce.specs.Ring.{sizeOf, modulusFor};
-ghost use Rattle.primus_lattice.specs.Answers.{addRows, extractRows, tagAnswer, markAnswer};
-ghost use Rattle.saigagalena.specs.Service.{tallyFor, numberOfTally, tagNumber, markNumber};
+ghost use Rattle.primus_lattice.specs.Answers.{addRows, extractRows, tallyFor, tagAnswer, markAnswer};
+ghost use Rattle.saigagalena.specs.Service.{tagNumber, markNumber};
 use crate::answers;
 use crate::parameters;
 use primus_lattice::LweDimensionAnswer;
@@ -49,34 +49,18 @@ pub extern "C" fn saigagalena_extract(
     }
 }
 
-// 2^64 − 1 is no tally.
-fn tally_for(number: u64) -> Tally
-    ensures { λ r. ⌜ r ≡ tallyFor number ⌝ }
-{
-    if number == u64::MAX {
-        return Tally::Absent;
-    }
-    Tally::Present(number)
-}
-
-fn number_of_tally(tally: Tally) -> u64
-    ensures { λ r. ⌜ r ≡ numberOfTally tally ⌝ }
-{
-    match tally {
-        Tally::Absent => u64::MAX,
-        Tally::Present(a) => a,
-    }
-}
-
 // The tally of a sum, or 2^32 + 17.
 #[no_mangle]
 pub extern "C" fn saigagalena_add_tally(x: u64, y: u64) -> u64
     ensures { λ r. ⌜ r ≡ tagNumber (tagAnswer (tallyFor x) (tallyFor y)) ⌝ }
 {
-    let first = LweTag::from_tally(tally_for(x));
-    let second = LweTag::from_tally(tally_for(y));
+    let first = LweTag::from_tally(Tally::from_number(x));
+    let second = LweTag::from_tally(Tally::from_number(y));
     match first.add(second) {
-        LweTagAnswer::Tag(tag) => number_of_tally(tag.tally()),
+        LweTagAnswer::Tag(tag) => {
+            let sum = tag.tally();
+            sum.number()
+        }
         LweTagAnswer::Refused(r) => answers::refused(r),
     }
 }
@@ -100,6 +84,6 @@ fn mark_number(answer: MarkAnswer) -> u64
 pub extern "C" fn saigagalena_is_good(modulus: u32, t: u32, tally: u64) -> u64
     ensures { λ r. ⌜ r ≡ markNumber (markAnswer (tallyFor tally) (modulusFor modulus) t) ⌝ }
 {
-    let tag = LweTag::from_tally(tally_for(tally));
+    let tag = LweTag::from_tally(Tally::from_number(tally));
     mark_number(tag.is_good(Modulus::from_number(modulus), t))
 }

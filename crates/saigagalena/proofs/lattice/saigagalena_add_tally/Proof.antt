@@ -1,8 +1,8 @@
 use mathlib.Core.Path.{_≡_, sym, ap, ap₂, _∙_}
 use Rattle.primus_lattice.specs.declared.tag.LweTagAnswer.{LweTagAnswer}
 use Rattle.primus_lattice.specs.declared.tag.LweTagAnswer.the-variants as T
-use Rattle.primus_lattice.specs.Answers.{tagAnswer}
-use Rattle.saigagalena.specs.Service.{tallyFor, numberOfTally, tagNumber}
+use Rattle.primus_lattice.specs.Answers.{tallyFor, numberOfTally, tagAnswer}
+use Rattle.saigagalena.specs.Service.{tagNumber}
 use borrow.Author.Needs.{needs}
 use Rattle.saigagalena.proofs.lattice.saigagalena_add_tally.Statement.{statement}
 use Rattle.saigagalena.proofs.lattice.saigagalena_add_tally.Tie as tie
@@ -13,14 +13,14 @@ summed c =
     let second = c .before in
     let first = second .before .before in
     c .add .ensures
-    ∙ ap₂ tagAnswer (first .from-tally .ensures ∙ first .before .tally-for .ensures) (second .from-tally2 .ensures ∙ second .before .tally-for2 .ensures)
+    ∙ ap₂ tagAnswer (first .from-tally .ensures ∙ first .before .from-number .ensures) (second .from-tally2 .ensures ∙ second .before .from-number2 .ensures)
 
 returns : tie.Need-returns
 returns c =
     let y = c .before in
     let g = y .before .before in
     let s = g .before .before in
-    c .number-of-tally .ensures ∙ ap numberOfTally (y .tally .ensures) ∙ ap tagNumber (sym (g .tag .given .1) ∙ summed s)
+    c .number .ensures ∙ ap numberOfTally (y .tally .ensures) ∙ ap tagNumber (sym (g .tag .given .1) ∙ summed s)
 
 returns-2 : tie.Need-returns-2
 returns-2 c =

@@ -15,7 +15,7 @@ returns c =
     c .mark-number .ensures
     ∙ ap markNumber
     (g .is-good .ensures
-    ∙ ap₂ (λ (y : Tally) (m : Modulus). markAnswer y m (a .t)) (x .from-tally .ensures ∙ x .before .tally-for .ensures) (m .from-number .ensures))
+    ∙ ap₂ (λ (y : Tally) (m : Modulus). markAnswer y m (a .t)) (x .from-tally .ensures ∙ x .before .from-number .ensures) (m .from-number2 .ensures))
 
 pub saigagalena-is-good-spec : {M : Type 1} → statement M
 saigagalena-is-good-spec =
