@@ -62,7 +62,7 @@ abbrev pub markFails : List ℕ → Bool
 markFails s = not (eqb (word64 s 0) (1313621843 + 2 ^ 32))
 
 abbrev pub kindFails : ℕ → Bool
-kindFails k = ltb k 1 || ltb 6 k
+kindFails k = ltb k 1 || ltb 7 k
 
 abbrev pub besideFails : ℕ → ℕ → Bool
 besideFails k b = pick (eqb k 5) (ltb 1 b) (not (eqb b 0))

@@ -50,7 +50,7 @@ fn mark_unknown(bytes: &[u8]) -> bool
 fn kind_unknown(kind: u32) -> bool
     ensures { λ r. ⌜ r ≡ kindFails kind ⌝ }
 {
-    kind < 1 || 6 < kind
+    kind < 1 || 7 < kind
 }
 
 // Only ciphertexts of one message have tallies beside their words; nothing else is saved by this release.
