@@ -99,13 +99,16 @@ fn tell(folder: &[u8], name: &[u8], l: Loaded, refusal: u32, out: &[u32]) {
     let mut told = [0u32; 8192];
     let beside = files::load(folder, name, b".opens", &mut told);
     let b = beside.head;
+    let sum = beside.checksum as u64;
     files::begin(folder, name, l);
     let r = checks::refuse(l.refusal, beside.refusal != 0, beside.refusal);
     let r = checks::refuse(r, refusal != 0, refusal);
     let r = checks::refuse(r, b.kind != 7 || b.words != h.count, DIFFERS);
     let r = checks::refuse(r, files::compared(out, &told, count) != 0, DIFFERS);
     lines::print(b"", count as u64);
-    lines::end(b" messages, as saved", r);
+    lines::print(b" messages, checksum ", sum);
+    lines::write(b": ");
+    lines::end(b"as saved", r);
 }
 
 pub(crate) fn opened(folder: &[u8], name: &[u8], secret: &[u8]) {
