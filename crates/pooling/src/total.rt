@@ -87,7 +87,12 @@ fn add_words(total: &mut [u32], bytes: &[u8], modulus: Modulus)
 }
 
 // Adds the ciphertexts of a file to a total, and their tallies. Refuses by 19, 2, 6, 7, 8, 10, 12, 14, 17.
-pub fn add_saved(params: PoolParameters, bytes: &[u8], total: &mut [u32], tallies: &mut [u64]) -> u32
+pub fn add_saved(
+    params: PoolParameters,
+    bytes: &[u8],
+    total: &mut [u32],
+    tallies: &mut [u64],
+) -> u32
     ensures words { λ r. ⌜ Answers (firstOf (totalRows params (now (bytes .entry)) (now (total .entry)) (now (tallies .entry)))) (addWords (sizeOf (params .modulus)) (now (total .entry)) (fileWords (now (bytes .entry)) (length (now (total .entry))))) (now (total .entry)) r (now (total .exit)) ⌝ }
     ensures tallies { λ r. ⌜ Answers (firstOf (totalRows params (now (bytes .entry)) (now (total .entry)) (now (tallies .entry)))) (addTallies (now (tallies .entry)) (now (bytes .entry))) (now (tallies .entry)) r (now (tallies .exit)) ⌝ }
 {

@@ -22,7 +22,9 @@ fn print_totals(counts: [u32; 4]) {
     print_total(2, counts[1]);
     print_total(3, counts[2]);
     print_total(4, counts[3]);
-    files::write(b"a switched ciphertext has no tally, so the opened total itself is never marked good:\n");
+    files::write(
+        b"a switched ciphertext has no tally, so the opened total itself is never marked good:\n",
+    );
     files::write(b"it rests on the marks above and on the bound of the switching error\n");
 }
 
@@ -52,7 +54,12 @@ fn with_secret(h: Head, secret: &[u32], sent: &[u32], words: usize) -> u32 {
         return 10;
     }
     match LweDimension::try_new(h.n) {
-        LweDimensionAnswer::Accepted(dimension) => with_dimension(dimension, modulus, &secret[..n], &sent[..words]),
+        LweDimensionAnswer::Accepted(dimension) => with_dimension(
+            dimension,
+            modulus,
+            &secret[..n],
+            &sent[..words],
+        ),
         LweDimensionAnswer::Refused(r) => r,
     }
 }

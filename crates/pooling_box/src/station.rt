@@ -87,7 +87,13 @@ fn print_marks(tallies: [u64; 4], modulus: Modulus) {
 }
 
 // Adds, prints the marks, and switches the total into `sent`; 0, or the switch's refusal.
-fn serve(params: LweKeySwitchingParameters, modulus: Modulus, key: &[u32], total: &mut [u32], sent: &mut [u32]) -> u32 {
+fn serve(
+    params: LweKeySwitchingParameters,
+    modulus: Modulus,
+    key: &[u32],
+    total: &mut [u32],
+    sent: &mut [u32],
+) -> u32 {
     let dimension = params.input_dimension;
     let pool = PoolParameters {
         modulus,
@@ -105,46 +111,59 @@ fn serve(params: LweKeySwitchingParameters, modulus: Modulus, key: &[u32], total
     key_switch_batch_to(params, key, total, sent)
 }
 
-// A total of four ciphertexts, in rooms cut to the key's dimensions; the number of words sent on, or 0.
-fn with_rooms(
+// The buffers cut to the lengths that the key's head gives.
+fn in_rooms(
+    h: Head,
+    params: LweKeySwitchingParameters,
+    width: usize,
+    room: usize,
+    key: &[u32],
+    total: &mut [u32],
+    sent: &mut [u32],
+) -> u32 {
+    let words = h.words as usize;
+    let modulus = h.modulus;
+    if key.len() < words {
+        return 9;
+    }
+    if total.len() < width {
+        return 10;
+    }
+    if sent.len() < room {
+        return 11;
+    }
+    serve(
+        params,
+        modulus,
+        &key[..words],
+        &mut total[..width],
+        &mut sent[..room],
+    )
+}
+
+// The words of four ciphertexts. A dimension above 2,048 is refused before.
+fn width_of(dimension: usize) -> usize {
+    if 2048 < dimension {
+        return 0;
+    }
+    PLACES * (dimension + 1)
+}
+
+// A total of four ciphertexts of n + 1 words is switched to four of m + 1; the number of words sent on, or 0.
+fn with_key(
     h: Head,
     params: LweKeySwitchingParameters,
     key: &[u32],
     total: &mut [u32],
     sent: &mut [u32],
 ) -> usize {
-    let words = h.words as usize;
-    let modulus = h.modulus;
-    let n = h.n;
-    let m = h.m;
-    if 2000 < n {
-        return too_large();
-    }
-    if 2000 < m {
-        return too_large();
-    }
-    let width = PLACES * (n + 1);
-    let room = PLACES * (m + 1);
-    if key.len() < words {
-        return too_large();
-    }
-    if total.len() < width {
-        return too_large();
-    }
-    if sent.len() < room {
-        return too_large();
-    }
-    let r = serve(params, modulus, &key[..words], &mut total[..width], &mut sent[..room]);
+    let room = width_of(h.m);
+    let r = in_rooms(h, params, width_of(h.n), room, key, total, sent);
     if r != 0 {
         reasons::told(b"the switch", r);
         return 0;
     }
     room
-}
-
-fn too_large() -> usize {
-    files::write(b"switching_key: larger than this program has room for\n");
-    0
 }
 
 fn dimensions(
@@ -158,7 +177,11 @@ fn dimensions(
             LweDimensionAnswer::Refused(r) => LweKeySwitchingParametersAnswer::Refused(r),
             LweDimensionAnswer::Accepted(input) => match m {
                 LweDimensionAnswer::Refused(r) => LweKeySwitchingParametersAnswer::Refused(r),
-                LweDimensionAnswer::Accepted(output) => LweKeySwitchingParameters::try_new(basis, input, output),
+                LweDimensionAnswer::Accepted(output) => LweKeySwitchingParameters::try_new(
+                    basis,
+                    input,
+                    output,
+                ),
             },
         },
     }
@@ -185,7 +208,13 @@ pub(crate) fn run(sent: &mut [u32]) -> usize {
         return 0;
     }
     match parameters(h) {
-        LweKeySwitchingParametersAnswer::Accepted(params) => with_rooms(h, params, &key, &mut total, sent),
+        LweKeySwitchingParametersAnswer::Accepted(params) => with_key(
+            h,
+            params,
+            &key,
+            &mut total,
+            sent,
+        ),
         LweKeySwitchingParametersAnswer::Refused(r) => {
             reasons::told(b"switching_key", r);
             0

@@ -53,7 +53,13 @@ fn open_in(h: Head, n: usize, secret: &[u32], words: &[u32], out: &mut [u32]) ->
 }
 
 // The message of the ciphertext at `at`, or 2^32 − 1, which is none.
-fn message_at(params: LweParameters, secret: &[i32], words: &[u32], at: usize, width: usize) -> u32 {
+fn message_at(
+    params: LweParameters,
+    secret: &[i32],
+    words: &[u32],
+    at: usize,
+    width: usize,
+) -> u32 {
     let end = std::num::wrapping_add_usize(at, width);
     if end < at {
         return 0xffff_ffff;

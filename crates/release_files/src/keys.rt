@@ -29,7 +29,10 @@ pub(crate) fn secret(folder: &[u8], name: &[u8]) {
     let l = files::load(folder, name, b"", &mut words);
     let r = secret_refusal(l.head, 1);
     files::begin(folder, name, l);
-    lines::end(b"a secret key of words", checks::refuse(l.refusal, r != 0, r));
+    lines::end(
+        b"a secret key of words",
+        checks::refuse(l.refusal, r != 0, r),
+    );
 }
 
 pub(crate) fn signed_secret(folder: &[u8], name: &[u8]) {
@@ -37,7 +40,10 @@ pub(crate) fn signed_secret(folder: &[u8], name: &[u8]) {
     let l = files::load_numbers(folder, name, &mut numbers);
     let r = secret_refusal(l.head, 2);
     files::begin(folder, name, l);
-    lines::end(b"a secret key of signed numbers", checks::refuse(l.refusal, r != 0, r));
+    lines::end(
+        b"a secret key of signed numbers",
+        checks::refuse(l.refusal, r != 0, r),
+    );
 }
 
 // A phase within ±E of 0, modulo q.
@@ -109,7 +115,10 @@ pub(crate) fn public_key(folder: &[u8], name: &[u8], secret: &[u8]) {
     let r = public_refusal(h, &words, &key, &mut out);
     let r = checks::refuse(l.refusal, r != 0, r);
     files::begin(folder, name, l);
-    lines::end(b"rows that open to 0", checks::refuse(r, s.refusal != 0, s.refusal));
+    lines::end(
+        b"rows that open to 0",
+        checks::refuse(r, s.refusal != 0, s.refusal),
+    );
 }
 
 fn dimensions(
@@ -136,13 +145,25 @@ fn switch(h: Head, key: &[u32], input: &[u32], out: &mut [u32]) -> u32 {
     let n = LweDimension::try_new(h.n);
     let m = LweDimension::try_new(h.m);
     match dimensions(basis_for(modulus, h.base_log, levels_for(h.levels)), n, m) {
-        LweKeySwitchingParametersAnswer::Accepted(params) => key_switch_batch_to(params, key, input, out),
+        LweKeySwitchingParametersAnswer::Accepted(params) => key_switch_batch_to(
+            params,
+            key,
+            input,
+            out,
+        ),
         LweKeySwitchingParametersAnswer::Refused(r) => r,
     }
 }
 
 // The key switches the saved input to the saved output, word for word.
-fn switch_refusal(h: Head, from: Head, to: Head, key: &[u32], input: &[u32], out: &mut [u32]) -> u32 {
+fn switch_refusal(
+    h: Head,
+    from: Head,
+    to: Head,
+    key: &[u32],
+    input: &[u32],
+    out: &mut [u32],
+) -> u32 {
     let a = h.words as usize;
     let b = from.words as usize;
     let c = to.words as usize;
@@ -170,7 +191,14 @@ pub(crate) fn switching_key(folder: &[u8], name: &[u8], from: &[u8], to: &[u8]) 
     let y_head = y.head;
     let r = switch_refusal(h, x.head, y_head, &key, &input, &mut out);
     let r = checks::refuse(l.refusal, r != 0, r);
-    let r = checks::refuse(r, files::compared(&out, &output, y_head.words as usize) != 0, DIFFERS);
+    let r = checks::refuse(
+        r,
+        files::compared(&out, &output, y_head.words as usize) != 0,
+        DIFFERS,
+    );
     files::begin(folder, name, l);
-    lines::end(b"switches as saved", checks::refuse(r, h.kind != 3, DIFFERS));
+    lines::end(
+        b"switches as saved",
+        checks::refuse(r, h.kind != 3, DIFFERS),
+    );
 }

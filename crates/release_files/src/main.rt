@@ -17,7 +17,12 @@ fn setting(folder: &[u8]) {
     ciphertexts::opened(folder, b"public", b"secret");
     ciphertexts::opened_signed(folder, b"signed_fresh", b"signed_secret");
     keys::switching_key(folder, b"switching_key", b"summed", b"switched");
-    keys::switching_key(folder, b"signed_switching_key", b"signed_fresh", b"signed_switched");
+    keys::switching_key(
+        folder,
+        b"signed_switching_key",
+        b"signed_fresh",
+        b"signed_switched",
+    );
     ciphertexts::opened(folder, b"switched", b"group_secret");
     ciphertexts::opened(folder, b"signed_switched", b"group_secret");
 }

@@ -28,7 +28,7 @@ returns c =
       ← b3 .u32-at3 .ensures,
       ← b2 .u32-at2 .ensures,
       ← m .before .u32-at .ensures,
-      m .from-number .ensures
+      m .from-number .ensures,
     )
 
 pub head-of-spec : {M : Type 1} → statement M
