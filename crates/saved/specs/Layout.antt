@@ -12,7 +12,7 @@ use Rattle.little_endian.specs.Bytes.{word32, word64}
 use Rattle.primus_reduce.specs.Ring.{modulusFor}
 use Rattle.saved.specs.declared.head.Head.{Head}
 
--- the fields of the head, each four bytes at its place
+-- the numbers of the head, each four bytes at its place
 abbrev pub kindOf : List ℕ → ℕ
 kindOf s = word32 s 8
 
@@ -25,6 +25,7 @@ wordsOf s = word32 s 44
 abbrev pub besideOf : List ℕ → ℕ
 besideOf s = word32 s 48
 
+-- the head, of any bytes
 unfoldable pub headOf : List ℕ → Head
 headOf s =
     record {
@@ -41,7 +42,7 @@ headOf s =
       beside = besideOf s;
     }
 
--- "word i", after the head
+-- word i after the head
 abbrev pub fileWord : List ℕ → ℕ → ℕ
 fileWord s i = word32 s (64 + 4 * i)
 
@@ -53,21 +54,23 @@ fileWords s k = tabulate k (fileWord s)
 abbrev pub signedWord : ℕ → ℤ
 signedWord w = pick (ltb w (2 ^ 31)) (pos w) (pos w -ℤ pos (2 ^ 32))
 
--- "bit 1: a tally for each ciphertext, eight bytes, after the words; absent: no tally"
+-- bit 1: a tally for each ciphertext, eight bytes, after the words; where it is 0, no tally
 abbrev pub savedTally : List ℕ → ℕ → Tally
 savedTally s i = pick (eqb (besideOf s) 1) (Present (word64 s (64 + 4 * wordsOf s + 8 * i))) Absent
 
 -- "SGLN", then version 1: as one number of eight bytes
-abbrev pub markFails : List ℕ → Bool
-markFails s = not (eqb (word64 s 0) (1313621843 + 2 ^ 32))
+abbrev pub signatureFails : List ℕ → Bool
+signatureFails s = not (eqb (word64 s 0) (1313621843 + 2 ^ 32))
 
+-- kinds 1 to 7
 abbrev pub kindFails : ℕ → Bool
 kindFails k = ltb k 1 || ltb 7 k
 
+-- beside the words of kind 5 there may be tallies, and beside the others nothing
 abbrev pub besideFails : ℕ → ℕ → Bool
 besideFails k b = pick (eqb k 5) (ltb 1 b) (not (eqb b 0))
 
--- "52 to 63: zero, kept"
+-- bytes 52 to 63: zero, kept for later releases
 abbrev pub keptFails : List ℕ → Bool
 keptFails s = not (eqb (word64 s 52) 0) || not (eqb (word32 s 60) 0)
 
@@ -82,7 +85,7 @@ sizeFails len w c b = not (eqb len (sizeFor w c b))
 abbrev pub fileRows : List ℕ → List Check
 fileRows s =
     row (ltb (length s) 64) 19
-    ∷ row (markFails s) 19
+    ∷ row (signatureFails s) 19
     ∷ row (kindFails (kindOf s)) 19
     ∷ row (besideFails (kindOf s) (besideOf s)) 19
     ∷ row (keptFails s) 19

@@ -2,7 +2,7 @@
 ghost use mathlib.Core.Path.{_≡_};
 ghost use lib.ListN.{length};
 ghost use Rattle.scheme.specs.Checks.{firstOf};
-ghost use Rattle.saved.specs.Layout.{headOf, fileRows, markFails, kindFails, besideFails, keptFails, sizeFails};
+ghost use Rattle.saved.specs.Layout.{headOf, fileRows, signatureFails, kindFails, besideFails, keptFails, sizeFails};
 use primus_reduce::Modulus;
 
 // What the words are, and what they were made with; 0 where a number does not apply.
@@ -40,9 +40,9 @@ pub fn head_of(bytes: &[u8]) -> Head
     }
 }
 
-// "SGLN", version 1.
-fn mark_unknown(bytes: &[u8]) -> bool
-    ensures { λ r. ⌜ r ≡ markFails (now (bytes .entry)) ⌝ }
+// The signature "SGLN", and version 1.
+fn signature_unknown(bytes: &[u8]) -> bool
+    ensures { λ r. ⌜ r ≡ signatureFails (now (bytes .entry)) ⌝ }
 {
     little_endian::u64_at(bytes, 0) != 0x1_4e4c_4753
 }
@@ -86,7 +86,7 @@ pub fn file_refusal(bytes: &[u8]) -> u32
 {
     let h = head_of(bytes);
     let r = checks::refuse(0, bytes.len() < 64, 19);
-    let r = checks::refuse(r, mark_unknown(bytes), 19);
+    let r = checks::refuse(r, signature_unknown(bytes), 19);
     let r = checks::refuse(r, kind_unknown(h.kind), 19);
     let r = checks::refuse(r, beside_unknown(h.kind, h.beside), 19);
     let r = checks::refuse(r, kept_used(bytes), 19);

@@ -19,7 +19,7 @@ returns c =
     first (fileRows s) tt
     (none
     ▹ (r1 .refuse .ensures, refl)
-    ▹ (r2 .refuse2 .ensures, r2 .before .mark-unknown .ensures)
+    ▹ (r2 .refuse2 .ensures, r2 .before .signature-unknown .ensures)
     ▹ (r3 .refuse3 .ensures, r3 .before .kind-unknown .ensures ∙ ap (λ h. kindFails (h .kind)) e)
     ▹ (r4 .refuse4 .ensures, r4 .before .beside-unknown .ensures ∙ ap (λ h. besideFails (h .kind) (h .beside)) e)
     ▹ (r5 .refuse5 .ensures, r5 .before .kept-used .ensures)
