@@ -1,0 +1,72 @@
+-- A total: the words of some ciphertexts, one after the other, and a tally for each. A saved file is added place by place.
+use mathlib.Core.Bool.{Bool, not, _||_}
+use mathlib.Core.List.{List, [], _∷_, _++_}
+use Prim.Native.Nat.{ℕ, _+_, _*_, _-_, _^_}
+use lib.Dec.{eqb}
+use lib.ListN.{length, getD}
+use Rattle.scheme.specs.Numbers.{pick, tabulate}
+use Rattle.scheme.specs.Tally.{addTally}
+use Rattle.scheme.specs.Checks.{Check, row, firstOf, allOf, modulusFails, dimensionFails, plaintextFails, smallFails, lengthFails, wordsFail}
+use Rattle.primus_reduce.specs.Ring.{meant, sizeOf, numberOf}
+use Rattle.primus_reduce.specs.declared.modulus.Modulus.{Modulus}
+use Rattle.primus_lattice.specs.declared.tag.Tally.{Tally}
+use Rattle.primus_lattice.specs.declared.tag.Tally.the-variants.{Absent, Present}
+use Rattle.primus_lattice.specs.Answers.{meantTally, heldTally, tagRows}
+use Rattle.saved.specs.declared.head.Head.{Head}
+use Rattle.saved.specs.Layout.{headOf, fileRows, fileWords, savedTally}
+use Rattle.pooling.specs.declared.total.PoolParameters.{PoolParameters}
+
+-- the number of a place that has no tally
+abbrev pub noTally : ℕ
+noTally = 2 ^ 64 - 1
+
+abbrev pub tallyFor : ℕ → Tally
+tallyFor x = pick (eqb x noTally) Absent (Present x)
+
+abbrev pub numberFor : Tally → ℕ
+numberFor Absent = noTally
+numberFor (Present a) = a
+
+-- "A sum with one that has none has none"; "adds … their tallies"
+abbrev pub sumOf : Tally → Tally → Tally
+sumOf x y = heldTally (addTally (meantTally x) (meantTally y))
+
+-- 17, at one place
+abbrev pub sumFails : Tally → Tally → Bool
+sumFails x y = not (eqb (firstOf (tagRows x y)) 0)
+
+-- the two tallies that meet at place i: that of the total and that of the file s
+abbrev pub placeFails : List ℕ → List ℕ → ℕ → Bool
+placeFails xs s i = sumFails (tallyFor (getD xs i 0)) (heldTally (savedTally s i))
+
+abbrev pub placeSum : List ℕ → List ℕ → ℕ → ℕ
+placeSum xs s i = numberFor (sumOf (tallyFor (getD xs i 0)) (heldTally (savedTally s i)))
+
+-- 17, at some place
+unfoldable pub talliesFail : List ℕ → List ℕ → Bool
+talliesFail xs s = not (allOf (λ i. not (placeFails xs s i)) (tabulate (length xs) (λ i. i)))
+
+abbrev pub addTallies : List ℕ → List ℕ → List ℕ
+addTallies xs s = tabulate (length xs) (placeSum xs s)
+
+-- 19: a file of another kind, or made with another q or t, is unknown to this total
+abbrev pub otherFails : Head → Modulus → ℕ → Bool
+otherFails h m t = not (eqb (h .kind) 5) || (not (eqb (numberOf (h .modulus)) (numberOf m)) || not (eqb (h .«plaintext_modulus») t))
+
+-- 19 for what is no file or not one of this total; then 2, 6, 7, 8, 10, 12, 14 and 17, for the file s
+abbrev pub totalRows : PoolParameters → List ℕ → List ℕ → List ℕ → List Check
+totalRows p s xs tallies =
+    fileRows s
+    ++ row (otherFails (headOf s) (p .modulus) (p .«plaintext_modulus»)) 19
+    ∷ row (modulusFails (meant (p .modulus))) 2
+    ∷ row (dimensionFails (p .dimension .0)) 6
+    ∷ row (plaintextFails (p .«plaintext_modulus»)) 7
+    ∷ row (smallFails (p .«plaintext_modulus») (meant (p .modulus))) 8
+    ∷ row (lengthFails (headOf s .n) (p .dimension .0)) 10
+    ∷ row (lengthFails (headOf s .words) (headOf s .count * (p .dimension .0 + 1))) 10
+    ∷ row (lengthFails (length xs) (headOf s .words)) 10
+    ∷ row (lengthFails (length tallies) (headOf s .count)) 12
+    ∷ row (wordsFail (sizeOf (p .modulus)) xs) 14
+    ∷ row (wordsFail (sizeOf (p .modulus)) (fileWords s (headOf s .words))) 14
+    ∷ row (talliesFail tallies s) 17
+    ∷ []

@@ -1,0 +1,11 @@
+use mathlib.Core.Path.{sym}
+use native.Mathlib.Omega.{arith}
+use lib.Seq.{length-take-le}
+use borrow.Author.Needs.{needs}
+use Rattle.pooling_box.proofs.files.load_with.Statement.{statement}
+use Rattle.pooling_box.proofs.files.load_with.Tie as tie
+
+pub load-with-spec : {M : Type 1} → statement M
+load-with-spec =
+    tie.close
+    (tie.spec (λ c κs. tt) (λ c. search needs) (λ c. sym (length-take-le _ _ (omega arith))) (λ c κs. tt) (λ c. search needs) (λ c. search needs) (λ c. tt))

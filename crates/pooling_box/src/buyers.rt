@@ -1,0 +1,79 @@
+// The buyers: they have the group's secret, and see only the switched total.
+use crate::BOUND;
+use crate::PLAINTEXT_MODULUS;
+use crate::files;
+use crate::reasons;
+use primus_lattice::LweDimension;
+use primus_lattice::LweDimensionAnswer;
+use primus_lwe::LweParameters;
+use primus_lwe::decrypt_message_batch_to;
+use primus_reduce::Modulus;
+use saved::Head;
+
+fn print_total(place: u64, count: u32) {
+    files::print(b"  casting ", place);
+    files::print(b": ", count as u64);
+    files::write(b"\n");
+}
+
+fn print_totals(counts: [u32; 4]) {
+    files::write(b"the buyers open it with the group's secret:\n");
+    print_total(1, counts[0]);
+    print_total(2, counts[1]);
+    print_total(3, counts[2]);
+    print_total(4, counts[3]);
+    files::write(
+        b"a switched ciphertext has no tally, so the opened total itself is never marked good:\n",
+    );
+    files::write(b"it rests on the marks above and on the bound of the switching error\n");
+}
+
+fn with_dimension(dimension: LweDimension, modulus: Modulus, secret: &[u32], sent: &[u32]) -> u32 {
+    let params = LweParameters {
+        dimension,
+        modulus,
+        plaintext_modulus: PLAINTEXT_MODULUS,
+        bound: BOUND,
+    };
+    let mut counts = [0u32; 4];
+    let r = decrypt_message_batch_to(params, secret, sent, &mut counts);
+    if r == 0 {
+        print_totals(counts);
+    }
+    r
+}
+
+// Opens the first `words` words of what was sent, under a secret that is in order.
+fn with_secret(h: Head, secret: &[u32], sent: &[u32], words: usize) -> u32 {
+    let n = h.words as usize;
+    let modulus = h.modulus;
+    if secret.len() < n {
+        return 9;
+    }
+    if sent.len() < words {
+        return 10;
+    }
+    match LweDimension::try_new(h.n) {
+        LweDimensionAnswer::Accepted(dimension) => with_dimension(
+            dimension,
+            modulus,
+            &secret[..n],
+            &sent[..words],
+        ),
+        LweDimensionAnswer::Refused(r) => r,
+    }
+}
+
+pub(crate) fn open(sent: &[u32], words: usize) {
+    let mut secret = [0u32; 8192];
+    let l = files::load(b"group_secret", &mut secret);
+    let h = l.head;
+    if l.refusal != 0 || h.kind != 1 {
+        reasons::told(b"group_secret", 19);
+        return;
+    }
+    let r = with_secret(h, &secret, sent, words);
+    if r != 0 {
+        reasons::told(b"the opening", r);
+    }
+}

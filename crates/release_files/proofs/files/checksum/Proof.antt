@@ -1,0 +1,17 @@
+use Prim.Native.Nat.{_≤_, _-_}
+use native.Mathlib.Omega.{arith}
+use lib.ListN.{length}
+use borrow.Author.Needs.{needs}
+use Rattle.release_files.proofs.files.checksum.Statement.{statement}
+use Rattle.release_files.proofs.files.checksum.Tie as tie
+
+abbrev Inv-loop : tie.InvT-loop
+Inv-loop bytes sum₀ i₀ sum i = (i ≤ length bytes)
+
+abbrev μ-loop : tie.MeasureT-loop
+μ-loop bytes sum₀ i₀ sum i = length bytes - i
+
+pub checksum-spec : {M : Type 1} → statement M
+checksum-spec =
+    tie.close
+    (tie.spec Inv-loop μ-loop (λ c. omega arith) (λ c. omega arith) (λ c κs. tt) (λ c. omega arith) (λ c. omega arith) (λ c. search needs) (λ c. tt))

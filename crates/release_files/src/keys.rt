@@ -1,0 +1,204 @@
+// Keys, each tried on what it was made for.
+use crate::files;
+use crate::files::DIFFERS;
+use crate::lines;
+use key_switch::LweKeySwitchingParameters;
+use key_switch::LweKeySwitchingParametersAnswer;
+use key_switch::key_switch_batch_to;
+use primus_decompose::ApproxSignedBasisAnswer;
+use primus_decompose::basis_for;
+use primus_decompose::levels_for;
+use primus_lattice::LweDimension;
+use primus_lattice::LweDimensionAnswer;
+use primus_lwe::LweEncryptionParameters;
+use primus_lwe::decrypt_phase_batch_to;
+use saved::Head;
+
+fn secret_refusal(h: Head, kind: u32) -> u32 {
+    if h.kind != kind {
+        return DIFFERS;
+    }
+    if h.words as usize != h.n {
+        return 9;
+    }
+    0
+}
+
+pub(crate) fn secret(folder: &[u8], name: &[u8]) {
+    let mut words = [0u32; 8192];
+    let l = files::load(folder, name, b"", &mut words);
+    let r = secret_refusal(l.head, 1);
+    files::begin(folder, name, l);
+    lines::end(
+        b"a secret key of words",
+        checks::refuse(l.refusal, r != 0, r),
+    );
+}
+
+pub(crate) fn signed_secret(folder: &[u8], name: &[u8]) {
+    let mut numbers = [0i32; 2048];
+    let l = files::load_numbers(folder, name, &mut numbers);
+    let r = secret_refusal(l.head, 2);
+    files::begin(folder, name, l);
+    lines::end(
+        b"a secret key of signed numbers",
+        checks::refuse(l.refusal, r != 0, r),
+    );
+}
+
+// A phase within ±E of 0, modulo q.
+fn is_near(phase: u32, bound: u32, q: u64) -> bool {
+    if phase <= bound {
+        return true;
+    }
+    q <= phase as u64 + bound as u64
+}
+
+// The first `count` phases are within ±E.
+fn near(phases: &[u32], count: usize, bound: u32, q: u64) -> u32 {
+    let mut i = 0;
+    while i < count {
+        if phases.len() <= i {
+            return DIFFERS;
+        }
+        if !is_near(phases[i], bound, q) {
+            return DIFFERS;
+        }
+        i += 1;
+    }
+    0
+}
+
+fn phases(h: Head, secret: &[u32], key: &[u32], out: &mut [u32]) -> u32 {
+    let modulus = h.modulus;
+    match LweDimension::try_new(h.n) {
+        LweDimensionAnswer::Refused(r) => r,
+        LweDimensionAnswer::Accepted(dimension) => {
+            let params = LweEncryptionParameters {
+                dimension,
+                modulus,
+                bound: h.bound,
+            };
+            decrypt_phase_batch_to(params, secret, key, out)
+        }
+    }
+}
+
+// Its n rows are encryptions of 0 under the secret.
+fn public_refusal(h: Head, secret: &[u32], key: &[u32], out: &mut [u32]) -> u32 {
+    let n = h.n;
+    let len = h.words as usize;
+    let modulus = h.modulus;
+    if secret.len() < n {
+        return DIFFERS;
+    }
+    if key.len() < len {
+        return DIFFERS;
+    }
+    if out.len() < n {
+        return DIFFERS;
+    }
+    let r = phases(h, &secret[..n], &key[..len], &mut out[..n]);
+    if r != 0 {
+        return r;
+    }
+    near(out, n, h.bound, modulus.size())
+}
+
+pub(crate) fn public_key(folder: &[u8], name: &[u8], secret: &[u8]) {
+    let mut words = [0u32; 8192];
+    let mut key = [0u32; 8192];
+    let mut out = [0u32; 8192];
+    let s = files::load(folder, secret, b"", &mut words);
+    let l = files::load(folder, name, b"", &mut key);
+    let h = l.head;
+    let r = public_refusal(h, &words, &key, &mut out);
+    let r = checks::refuse(l.refusal, r != 0, r);
+    files::begin(folder, name, l);
+    lines::end(
+        b"rows that open to 0",
+        checks::refuse(r, s.refusal != 0, s.refusal),
+    );
+}
+
+fn dimensions(
+    answer: ApproxSignedBasisAnswer,
+    n: LweDimensionAnswer,
+    m: LweDimensionAnswer,
+) -> LweKeySwitchingParametersAnswer {
+    match answer {
+        ApproxSignedBasisAnswer::Refused(r) => LweKeySwitchingParametersAnswer::Refused(r),
+        ApproxSignedBasisAnswer::Accepted(basis) => match n {
+            LweDimensionAnswer::Refused(r) => LweKeySwitchingParametersAnswer::Refused(r),
+            LweDimensionAnswer::Accepted(input) => match m {
+                LweDimensionAnswer::Refused(r) => LweKeySwitchingParametersAnswer::Refused(r),
+                LweDimensionAnswer::Accepted(output) => {
+                    LweKeySwitchingParameters::try_new(basis, input, output)
+                }
+            },
+        },
+    }
+}
+
+fn switch(h: Head, key: &[u32], input: &[u32], out: &mut [u32]) -> u32 {
+    let modulus = h.modulus;
+    let n = LweDimension::try_new(h.n);
+    let m = LweDimension::try_new(h.m);
+    match dimensions(basis_for(modulus, h.base_log, levels_for(h.levels)), n, m) {
+        LweKeySwitchingParametersAnswer::Accepted(params) => key_switch_batch_to(
+            params,
+            key,
+            input,
+            out,
+        ),
+        LweKeySwitchingParametersAnswer::Refused(r) => r,
+    }
+}
+
+// The key switches the saved input to the saved output, word for word.
+fn switch_refusal(
+    h: Head,
+    from: Head,
+    to: Head,
+    key: &[u32],
+    input: &[u32],
+    out: &mut [u32],
+) -> u32 {
+    let a = h.words as usize;
+    let b = from.words as usize;
+    let c = to.words as usize;
+    if key.len() < a {
+        return DIFFERS;
+    }
+    if input.len() < b {
+        return DIFFERS;
+    }
+    if out.len() < c {
+        return DIFFERS;
+    }
+    switch(h, &key[..a], &input[..b], &mut out[..c])
+}
+
+pub(crate) fn switching_key(folder: &[u8], name: &[u8], from: &[u8], to: &[u8]) {
+    let mut key = [0u32; 8192];
+    let mut input = [0u32; 8192];
+    let mut output = [0u32; 8192];
+    let mut out = [0u32; 8192];
+    let l = files::load(folder, name, b"", &mut key);
+    let x = files::load(folder, from, b"", &mut input);
+    let y = files::load(folder, to, b"", &mut output);
+    let h = l.head;
+    let y_head = y.head;
+    let r = switch_refusal(h, x.head, y_head, &key, &input, &mut out);
+    let r = checks::refuse(l.refusal, r != 0, r);
+    let r = checks::refuse(
+        r,
+        files::compared(&out, &output, y_head.words as usize) != 0,
+        DIFFERS,
+    );
+    files::begin(folder, name, l);
+    lines::end(
+        b"switches as saved",
+        checks::refuse(r, h.kind != 3, DIFFERS),
+    );
+}

@@ -1,0 +1,11 @@
+// Saved keys and ciphertexts, read from lent bytes: docs/FILES.md has the layout. Past the end every byte is 0.
+mod head;
+mod words;
+
+pub use head::Head;
+pub use head::file_refusal;
+pub use head::head_of;
+pub use words::signed_at;
+pub use words::tally_at;
+pub use words::word_at;
+pub use words::words_to;
