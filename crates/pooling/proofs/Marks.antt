@@ -13,9 +13,9 @@ use Rattle.scheme.proofs.Checks.{passed}
 use Rattle.scheme.proofs.Lists.{getD-tabulate}
 use Rattle.primus_lattice.specs.declared.tag.Tally.{Tally}
 use Rattle.primus_lattice.specs.declared.tag.Tally.the-variants.{Absent, Present}
-use Rattle.primus_lattice.specs.Answers.{meantTally, heldTally, cap, tagRows}
+use Rattle.primus_lattice.specs.Answers.{meantTally, heldTally, cap, tagRows, noTally, tallyFor, numberOfTally}
 use Rattle.saved.specs.Layout.{savedTally}
-use Rattle.pooling.specs.Total.{noTally, tallyFor, numberFor, sumOf, sumFails, placeSum, talliesFail, addTallies}
+use Rattle.pooling.specs.Total.{sumOf, sumFails, placeSum, talliesFail, addTallies}
 use Rattle.pooling.proofs.Laws.{place-ok}
 
 held : (t : S.Tally) → meantTally (heldTally t) ≡ t
@@ -23,7 +23,7 @@ held S.Absent = refl
 held (S.Present a) = refl
 
 -- a sum that is not refused is far below the number that stands for none
-back : (x y : Tally) → sumFails x y ≡ false → tallyFor (numberFor (sumOf x y)) ≡ sumOf x y
+back : (x y : Tally) → sumFails x y ≡ false → tallyFor (numberOfTally (sumOf x y)) ≡ sumOf x y
 back Absent y h = refl
 back (Present a) Absent h = refl
 back (Present a) (Present b) h =

@@ -1,31 +1,19 @@
 -- A total: the words of some ciphertexts, one after the other, and a tally for each. A saved file is added place by place.
 use mathlib.Core.Bool.{Bool, not, _||_}
 use mathlib.Core.List.{List, [], _∷_, _++_}
-use Prim.Native.Nat.{ℕ, _+_, _*_, _-_, _^_}
+use Prim.Native.Nat.{ℕ, _+_, _*_}
 use lib.Dec.{eqb}
 use lib.ListN.{length, getD}
-use Rattle.scheme.specs.Numbers.{pick, tabulate}
+use Rattle.scheme.specs.Numbers.{tabulate}
 use Rattle.scheme.specs.Tally.{addTally}
 use Rattle.scheme.specs.Checks.{Check, row, firstOf, allOf, modulusFails, dimensionFails, plaintextFails, smallFails, lengthFails, wordsFail}
 use Rattle.primus_reduce.specs.Ring.{meant, sizeOf, numberOf}
 use Rattle.primus_reduce.specs.declared.modulus.Modulus.{Modulus}
 use Rattle.primus_lattice.specs.declared.tag.Tally.{Tally}
-use Rattle.primus_lattice.specs.declared.tag.Tally.the-variants.{Absent, Present}
-use Rattle.primus_lattice.specs.Answers.{meantTally, heldTally, tagRows}
+use Rattle.primus_lattice.specs.Answers.{meantTally, heldTally, tallyFor, numberOfTally, tagRows}
 use Rattle.saved.specs.declared.head.Head.{Head}
 use Rattle.saved.specs.Layout.{headOf, fileRows, fileWords, savedTally}
 use Rattle.pooling.specs.declared.total.PoolParameters.{PoolParameters}
-
--- the number of a place that has no tally
-abbrev pub noTally : ℕ
-noTally = 2 ^ 64 - 1
-
-abbrev pub tallyFor : ℕ → Tally
-tallyFor x = pick (eqb x noTally) Absent (Present x)
-
-abbrev pub numberFor : Tally → ℕ
-numberFor Absent = noTally
-numberFor (Present a) = a
 
 -- "A sum with one that has none has none"; "adds … their tallies"
 abbrev pub sumOf : Tally → Tally → Tally
@@ -40,7 +28,7 @@ abbrev pub placeFails : List ℕ → List ℕ → ℕ → Bool
 placeFails xs s i = sumFails (tallyFor (getD xs i 0)) (heldTally (savedTally s i))
 
 abbrev pub placeSum : List ℕ → List ℕ → ℕ → ℕ
-placeSum xs s i = numberFor (sumOf (tallyFor (getD xs i 0)) (heldTally (savedTally s i)))
+placeSum xs s i = numberOfTally (sumOf (tallyFor (getD xs i 0)) (heldTally (savedTally s i)))
 
 -- 17, at some place
 unfoldable pub talliesFail : List ℕ → List ℕ → Bool

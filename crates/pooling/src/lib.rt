@@ -2,6 +2,5 @@
 mod tallies;
 mod total;
 
-pub use tallies::tally_for;
 pub use total::PoolParameters;
 pub use total::add_saved;

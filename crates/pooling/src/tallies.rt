@@ -1,30 +1,11 @@
-// The tallies of a total: a number for each place, 2^64 − 1 where there is none.
+// The tallies of a total: a number for each place, as `Tally::number` gives it.
 ghost use mathlib.Core.Path.{_≡_};
 ghost use mathlib.Core.Bool.{false};
 ghost use Rattle.primus_lattice.specs.Answers.{tagAnswer};
-ghost use Rattle.pooling.specs.Total.{tallyFor, numberFor, sumOf, sumFails, talliesFail, addTallies};
+ghost use Rattle.pooling.specs.Total.{sumOf, sumFails, talliesFail, addTallies};
 use primus_lattice::LweTag;
 use primus_lattice::LweTagAnswer;
 use primus_lattice::Tally;
-
-// The tally that a number of a total stands for.
-pub fn tally_for(number: u64) -> Tally
-    ensures { λ r. ⌜ r ≡ tallyFor number ⌝ }
-{
-    if number == 0xffff_ffff_ffff_ffff {
-        return Tally::Absent;
-    }
-    Tally::Present(number)
-}
-
-fn number_for(tally: Tally) -> u64
-    ensures { λ r. ⌜ r ≡ numberFor tally ⌝ }
-{
-    match tally {
-        Tally::Absent => 0xffff_ffff_ffff_ffff,
-        Tally::Present(a) => a,
-    }
-}
 
 fn added(x: Tally, y: Tally) -> LweTagAnswer
     ensures { λ r. ⌜ r ≡ tagAnswer x y ⌝ }
@@ -61,7 +42,7 @@ pub(crate) fn tallies_refused(tallies: &[u64], bytes: &[u8]) -> bool
     let mut i = 0;
     while i < tallies.len() {
         let number = tallies[i];
-        if sum_refused(tally_for(number), saved::tally_at(bytes, i)) {
+        if sum_refused(Tally::from_number(number), saved::tally_at(bytes, i)) {
             any = true;
         }
         i += 1;
@@ -77,7 +58,8 @@ pub(crate) fn add_tallies(tallies: &mut [u64], bytes: &[u8])
     let mut i = 0;
     while i < tallies.len() {
         let number = tallies[i];
-        tallies[i] = number_for(sum(tally_for(number), saved::tally_at(bytes, i)));
+        let after = sum(Tally::from_number(number), saved::tally_at(bytes, i));
+        tallies[i] = after.number();
         i += 1;
     }
 }

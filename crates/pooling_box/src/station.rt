@@ -8,7 +8,6 @@ use key_switch::LweKeySwitchingParametersAnswer;
 use key_switch::key_switch_batch_to;
 use pooling::PoolParameters;
 use pooling::add_saved;
-use pooling::tally_for;
 use primus_decompose::ApproxSignedBasisAnswer;
 use primus_decompose::basis_for;
 use primus_decompose::levels_for;
@@ -80,10 +79,10 @@ fn print_good(good: bool) {
 }
 
 fn print_marks(tallies: [u64; 4], modulus: Modulus) {
-    print_mark(1, tally_for(tallies[0]), modulus);
-    print_mark(2, tally_for(tallies[1]), modulus);
-    print_mark(3, tally_for(tallies[2]), modulus);
-    print_mark(4, tally_for(tallies[3]), modulus);
+    print_mark(1, Tally::from_number(tallies[0]), modulus);
+    print_mark(2, Tally::from_number(tallies[1]), modulus);
+    print_mark(3, Tally::from_number(tallies[2]), modulus);
+    print_mark(4, Tally::from_number(tallies[3]), modulus);
 }
 
 // Adds, prints the marks, and switches the total into `sent`; 0, or the switch's refusal.

@@ -5,7 +5,8 @@ use native.Mathlib.Omega.{arith}
 use lib.ListN.{length, getD}
 use Rattle.scheme.proofs.InPlace.{Filled, filled-start, filled-word, filled-next, filled-end}
 use Rattle.scheme.proofs.Lists.{length-tabulate, getD-tabulate}
-use Rattle.pooling.specs.Total.{tallyFor, numberFor, sumOf, placeSum, addTallies}
+use Rattle.primus_lattice.specs.Answers.{tallyFor, numberOfTally}
+use Rattle.pooling.specs.Total.{sumOf, placeSum, addTallies}
 use Rattle.pooling.proofs.Laws.{fails-is, place-ok}
 use Rattle.pooling.proofs.tallies.add_tallies.Statement.{statement}
 use Rattle.pooling.proofs.tallies.add_tallies.Tie as tie
@@ -21,10 +22,10 @@ loop-holds c = let a = c .before .before .args in filled-start _ _ (length-tabul
 
 -- the total's tally at the place, which no turn has changed yet
 held : (c : tie.After-tally-at Inv-loop μ-loop) → let l = c .before .before .before .before in
-    c .before .tally-for .result ≡ tallyFor (getD (l .before .before .before .args .tallies .now) (l .loop .i) 0)
+    c .before .from-number .result ≡ tallyFor (getD (l .before .before .before .args .tallies .now) (l .loop .i) 0)
 held c =
     let l = c .before .before .before .before in
-    c .before .tally-for .ensures ∙ ap tallyFor (filled-word _ _ _ _ (l .loop .inv) (omega arith))
+    c .before .from-number .ensures ∙ ap tallyFor (filled-word _ _ _ _ (l .loop .inv) (omega arith))
 
 sum-requires : tie.Need-sum-requires Inv-loop μ-loop
 sum-requires c κs =
@@ -39,8 +40,8 @@ loop-again c =
     let l = t .before .before .before .before in
     let a = l .before .before .before .args in
     filled-next _ _ _ _ (l .loop .inv) _ (omega arith)
-    (c .number-for .ensures
-    ∙ ap numberFor (m .sum .ensures ∙ ap₂ sumOf (held t) (t .tally-at .ensures))
+    (c .number .ensures
+    ∙ ap numberOfTally (m .sum .ensures ∙ ap₂ sumOf (held t) (t .tally-at .ensures))
     ∙ sym (getD-tabulate (length (a .tallies .now)) (placeSum (a .tallies .now) (a .bytes .now)) (l .loop .i) (omega arith)))
 
 same-length : tie.Need-same-length Inv-loop μ-loop

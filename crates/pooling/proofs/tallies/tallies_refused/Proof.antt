@@ -29,7 +29,7 @@ loop-again c =
     let f = r .before .before in
     let l = f .before .before .before in
     let a = l .before .before .before .args in
-    let e = fails-is _ _ _ _ _ (r .sum-refused .ensures) (f .tally-for .ensures) (r .before .tally-at .ensures) in (
+    let e = fails-is _ _ _ _ _ (r .sum-refused .ensures) (f .from-number .ensures) (r .before .tally-at .ensures) in (
       omega arith,
       ⊎-elim
           (λ w. w .1 ∙ scan-hit (λ k. not (placeFails (a .tallies .now) (a .bytes .now) k)) (length (a .tallies .now)) (λ k. k) (l .loop .i) (omega arith)
