@@ -1,5 +1,4 @@
-//! The calls of saigagalena.h for Rust, as far as the oracle and the measurements use them.
-//! The header says what holds of each.
+//! The calls of saigagalena.h for Rust. The header says what holds of each.
 
 // No program uses all of them.
 #![allow(dead_code)]
@@ -32,6 +31,9 @@ unsafe extern "C" {
     pub fn saigagalena_public_key_generate_signed(modulus: u32, n: usize, bound: u32, secret: *const i32, secret_len: usize, masks: *const u32, masks_len: usize, errors: *const i32, errors_len: usize, out: *mut u32, out_len: usize) -> u32;
     pub fn saigagalena_public_key_encrypt_encoded(modulus: u32, n: usize, bound: u32, key: *const u32, key_len: usize, errors: *const i32, errors_len: usize, coefficients: *const i32, coefficients_len: usize, plaintext: u32, out: *mut u32, out_len: usize) -> u32;
     pub fn saigagalena_public_key_encrypt_message(modulus: u32, n: usize, t: u32, bound: u32, centered: u32, key: *const u32, key_len: usize, errors: *const i32, errors_len: usize, coefficients: *const i32, coefficients_len: usize, message: u32, out: *mut u32, out_len: usize) -> u32;
+    pub fn saigagalena_add(modulus: u32, n: usize, x: *mut u32, x_len: usize, y: *const u32, y_len: usize) -> u32;
+    pub fn saigagalena_add_tally(x: u64, y: u64) -> u64;
+    pub fn saigagalena_is_good(modulus: u32, t: u32, tally: u64) -> u64;
     pub fn saigagalena_extract(modulus: u32, n: usize, input: *const u32, input_len: usize, index: usize, out: *mut u32, out_len: usize) -> u32;
     pub fn saigagalena_key_generate(modulus: u32, base_log: u32, levels: u32, n: usize, m: usize, bound: u32, input_key: *const u32, input_key_len: usize, output_key: *const u32, output_key_len: usize, masks: *const u32, masks_len: usize, errors: *const i32, errors_len: usize, out: *mut u32, out_len: usize) -> u32;
     pub fn saigagalena_key_generate_signed(modulus: u32, base_log: u32, levels: u32, n: usize, m: usize, bound: u32, input_key: *const i32, input_key_len: usize, output_key: *const u32, output_key_len: usize, masks: *const u32, masks_len: usize, errors: *const i32, errors_len: usize, out: *mut u32, out_len: usize) -> u32;

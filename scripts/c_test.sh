@@ -2,7 +2,7 @@
 # The C interface, tried: builds the static library with `rt staticlib saigagalena` (or takes the one that ARCHIVE
 # names), compiles the header as C11 and C++, the examples and the tests, each without and with sanitizers, and runs
 # them. No part of the gate: it wants a C compiler on x86-64 (CC, default cc; CXX, default c++, is left out where there
-# is none; so are the sanitizers).
+# is none; so are the sanitizers, and rustc for the example in Rust).
 set -eu
 cd "$(dirname "$0")/.."
 cc=${CC:-cc}
@@ -60,5 +60,11 @@ if echo 'int main(void) { return 0; }' | "$cc" -x c $sanitize -o "$room/probe" -
     try sanitized $sanitize
 else
     echo "c_test: no sanitizers here"
+fi
+if command -v rustc >/dev/null; then
+    rustc --edition 2024 -O examples/decode.rs -C link-arg="$archive" -o "$room/decode_rs"
+    "$room/decode_rs"
+else
+    echo "c_test: no rustc here"
 fi
 echo "c_test: OK"
