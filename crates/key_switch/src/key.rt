@@ -210,7 +210,7 @@ impl LweKeySwitchingKey {
             return r;
         }
         let dimension = params.output_dimension;
-        let entries = LweEncryptionParameters {
+        let entry = LweEncryptionParameters {
             dimension,
             modulus,
             bound,
@@ -219,16 +219,7 @@ impl LweKeySwitchingKey {
         let prepared = basis.prepare();
         match prepared {
             PreparedBasisAnswer::Ready(p) => {
-                write_entries(
-                    out,
-                    input_key,
-                    output_key,
-                    masks,
-                    errors,
-                    weights,
-                    p,
-                    entries,
-                );
+                write_entries(out, input_key, output_key, masks, errors, weights, p, entry);
             }
             PreparedBasisAnswer::Refused(_) => {}
         }
@@ -257,7 +248,7 @@ impl LweKeySwitchingKey {
             return r;
         }
         let dimension = params.output_dimension;
-        let entries = LweEncryptionParameters {
+        let entry = LweEncryptionParameters {
             dimension,
             modulus,
             bound,
@@ -266,16 +257,7 @@ impl LweKeySwitchingKey {
         let prepared = basis.prepare();
         match prepared {
             PreparedBasisAnswer::Ready(p) => {
-                write_entries_signed(
-                    out,
-                    input_key,
-                    output_key,
-                    masks,
-                    errors,
-                    weights,
-                    p,
-                    entries,
-                );
+                write_entries_signed(out, input_key, output_key, masks, errors, weights, p, entry);
             }
             PreparedBasisAnswer::Refused(_) => {}
         }
