@@ -13,7 +13,15 @@ use Rattle.primus_reduce.specs.Ring.{meant, sizeOf}
 use Rattle.primus_lwe.specs.declared.parameter.LweEncryptionParameters.{LweEncryptionParameters}
 use Rattle.scheme.specs.Basis.{weight}
 use Rattle.primus_decompose.specs.declared.primitive.params.PreparedBasis.{PreparedBasis}
-use Rattle.primus_decompose.specs.Answers.{rows}
+use Rattle.primus_reduce.specs.declared.modulus.Modulus.{Modulus}
+use Rattle.primus_decompose.specs.declared.error.ApproxSignedBasisAnswer.{ApproxSignedBasisAnswer}
+use Rattle.primus_decompose.specs.declared.error.ApproxSignedBasisAnswer.the-variants as B
+use Rattle.primus_decompose.specs.declared.parameters.RetainedLevels.{RetainedLevels}
+use Rattle.primus_decompose.specs.declared.primitive.basis.ApproxSignedBasis.{ApproxSignedBasis}
+use Rattle.primus_decompose.specs.Answers.{rows, made}
+use Rattle.primus_lattice.specs.declared.dimension.LweDimensionAnswer.{LweDimensionAnswer}
+use Rattle.primus_lattice.specs.declared.dimension.LweDimensionAnswer.the-variants as D
+use Rattle.primus_lattice.specs.Answers.{dimensionAnswer}
 use Rattle.primus_decompose.specs.Params.{Ready, basisIn}
 use Rattle.key_switch.specs.declared.parameters.LweKeySwitchingParameters.{LweKeySwitchingParameters}
 use Rattle.key_switch.specs.declared.parameters.LweKeySwitchingParametersAnswer.{LweKeySwitchingParametersAnswer}
@@ -30,6 +38,19 @@ parameterRows P = rows (P .basis) ++ row (dimensionFails (P .«input_dimension»
 
 abbrev pub parametersAnswer : LweKeySwitchingParameters → LweKeySwitchingParametersAnswer
 parametersAnswer P = pick (eqb (firstOf (parameterRows P)) 0) (A.Accepted P) (A.Refused (firstOf (parameterRows P)))
+
+-- from plain numbers: 1 to 5 of the basis, then 6 of n, then of m
+abbrev pub dimensionsFrom : ApproxSignedBasis → LweDimensionAnswer → LweDimensionAnswer → LweKeySwitchingParametersAnswer
+dimensionsFrom b (D.Accepted n) (D.Accepted m) = A.Accepted (record { basis = b; «input_dimension» = n; «output_dimension» = m })
+dimensionsFrom b (D.Accepted n) (D.Refused r) = A.Refused r
+dimensionsFrom b (D.Refused r) m = A.Refused r
+
+abbrev pub parametersFrom : ApproxSignedBasisAnswer → LweDimensionAnswer → LweDimensionAnswer → LweKeySwitchingParametersAnswer
+parametersFrom (B.Accepted b) n m = dimensionsFrom b n m
+parametersFrom (B.Refused r) n m = A.Refused r
+
+abbrev pub parametersFor : Modulus → ℕ → RetainedLevels → ℕ → ℕ → LweKeySwitchingParametersAnswer
+parametersFor q log levels n m = parametersFrom (made q log levels) (dimensionAnswer n) (dimensionAnswer m)
 
 -- a batch of `input` into `room` words: also 9, 10, 11 and 14, the key before the input
 abbrev pub batchRows : Sizes → List ℕ → List ℕ → ℕ → List Check

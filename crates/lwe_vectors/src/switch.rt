@@ -7,13 +7,9 @@ use key_switch::LweKeySwitchingParameters;
 use key_switch::LweKeySwitchingParametersAnswer;
 use key_switch::key_switch_batch_to;
 use key_switch::key_switch_to;
-use primus_decompose::ApproxSignedBasis;
-use primus_decompose::ApproxSignedBasisAnswer;
+use key_switch::parameters_for;
 use primus_decompose::DecompositionLevelCount;
 use primus_decompose::RetainedLevels;
-use primus_decompose::basis_for;
-use primus_lattice::LweDimension;
-use primus_lattice::LweDimensionAnswer;
 
 fn levels(n: u32) -> RetainedLevels {
     if n == 0xffff_ffff {
@@ -70,34 +66,9 @@ fn call(
     }
 }
 
-fn with_dimensions(
-    basis: ApproxSignedBasis,
-    n: LweDimensionAnswer,
-    m: LweDimensionAnswer,
-) -> LweKeySwitchingParametersAnswer {
-    match n {
-        LweDimensionAnswer::Accepted(input_dimension) => match m {
-            LweDimensionAnswer::Accepted(output_dimension) => {
-                LweKeySwitchingParametersAnswer::Accepted(LweKeySwitchingParameters {
-                    basis,
-                    input_dimension,
-                    output_dimension,
-                })
-            }
-            LweDimensionAnswer::Refused(r) => LweKeySwitchingParametersAnswer::Refused(r),
-        },
-        LweDimensionAnswer::Refused(r) => LweKeySwitchingParametersAnswer::Refused(r),
-    }
-}
-
 fn parameters(h: Head) -> LweKeySwitchingParametersAnswer {
     let modulus = h.modulus;
-    let n = LweDimension::try_new(h.n);
-    let m = LweDimension::try_new(h.m);
-    match basis_for(modulus, h.base_log, levels(h.levels)) {
-        ApproxSignedBasisAnswer::Accepted(basis) => with_dimensions(basis, n, m),
-        ApproxSignedBasisAnswer::Refused(r) => LweKeySwitchingParametersAnswer::Refused(r),
-    }
+    parameters_for(modulus, h.base_log, levels(h.levels), h.n, h.m)
 }
 
 pub(crate) fn said(

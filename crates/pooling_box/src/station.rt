@@ -6,13 +6,10 @@ use crate::reasons;
 use key_switch::LweKeySwitchingParameters;
 use key_switch::LweKeySwitchingParametersAnswer;
 use key_switch::key_switch_batch_to;
+use key_switch::parameters_for;
 use pooling::PoolParameters;
 use pooling::add_saved;
-use primus_decompose::ApproxSignedBasisAnswer;
-use primus_decompose::basis_for;
 use primus_decompose::levels_for;
-use primus_lattice::LweDimension;
-use primus_lattice::LweDimensionAnswer;
 use primus_lattice::LweTag;
 use primus_lattice::MarkAnswer;
 use primus_lattice::Tally;
@@ -165,35 +162,12 @@ fn with_key(
     room
 }
 
-fn dimensions(
-    answer: ApproxSignedBasisAnswer,
-    n: LweDimensionAnswer,
-    m: LweDimensionAnswer,
-) -> LweKeySwitchingParametersAnswer {
-    match answer {
-        ApproxSignedBasisAnswer::Refused(r) => LweKeySwitchingParametersAnswer::Refused(r),
-        ApproxSignedBasisAnswer::Accepted(basis) => match n {
-            LweDimensionAnswer::Refused(r) => LweKeySwitchingParametersAnswer::Refused(r),
-            LweDimensionAnswer::Accepted(input) => match m {
-                LweDimensionAnswer::Refused(r) => LweKeySwitchingParametersAnswer::Refused(r),
-                LweDimensionAnswer::Accepted(output) => LweKeySwitchingParameters::try_new(
-                    basis,
-                    input,
-                    output,
-                ),
-            },
-        },
-    }
-}
-
 fn parameters(h: Head) -> LweKeySwitchingParametersAnswer {
     let modulus = h.modulus;
     if h.kind != 3 {
         return LweKeySwitchingParametersAnswer::Refused(19);
     }
-    let n = LweDimension::try_new(h.n);
-    let m = LweDimension::try_new(h.m);
-    dimensions(basis_for(modulus, h.base_log, levels_for(h.levels)), n, m)
+    parameters_for(modulus, h.base_log, levels_for(h.levels), h.n, h.m)
 }
 
 // The switched total goes into `sent`; the answer is its number of words, 0 where there is none.

@@ -2,11 +2,9 @@
 use crate::files;
 use crate::files::DIFFERS;
 use crate::lines;
-use key_switch::LweKeySwitchingParameters;
 use key_switch::LweKeySwitchingParametersAnswer;
 use key_switch::key_switch_batch_to;
-use primus_decompose::ApproxSignedBasisAnswer;
-use primus_decompose::basis_for;
+use key_switch::parameters_for;
 use primus_decompose::levels_for;
 use primus_lattice::LweDimension;
 use primus_lattice::LweDimensionAnswer;
@@ -121,30 +119,9 @@ pub(crate) fn public_key(folder: &[u8], name: &[u8], secret: &[u8]) {
     );
 }
 
-fn dimensions(
-    answer: ApproxSignedBasisAnswer,
-    n: LweDimensionAnswer,
-    m: LweDimensionAnswer,
-) -> LweKeySwitchingParametersAnswer {
-    match answer {
-        ApproxSignedBasisAnswer::Refused(r) => LweKeySwitchingParametersAnswer::Refused(r),
-        ApproxSignedBasisAnswer::Accepted(basis) => match n {
-            LweDimensionAnswer::Refused(r) => LweKeySwitchingParametersAnswer::Refused(r),
-            LweDimensionAnswer::Accepted(input) => match m {
-                LweDimensionAnswer::Refused(r) => LweKeySwitchingParametersAnswer::Refused(r),
-                LweDimensionAnswer::Accepted(output) => {
-                    LweKeySwitchingParameters::try_new(basis, input, output)
-                }
-            },
-        },
-    }
-}
-
 fn switch(h: Head, key: &[u32], input: &[u32], out: &mut [u32]) -> u32 {
     let modulus = h.modulus;
-    let n = LweDimension::try_new(h.n);
-    let m = LweDimension::try_new(h.m);
-    match dimensions(basis_for(modulus, h.base_log, levels_for(h.levels)), n, m) {
+    match parameters_for(modulus, h.base_log, levels_for(h.levels), h.n, h.m) {
         LweKeySwitchingParametersAnswer::Accepted(params) => key_switch_batch_to(
             params,
             key,

@@ -21,9 +21,8 @@ use Rattle.primus_lattice.specs.declared.dimension.LweDimensionAnswer.the-varia
 use Rattle.key_switch.specs.declared.parameters.LweKeySwitchingParameters.{LweKeySwitchingParameters}
 use Rattle.key_switch.specs.declared.parameters.LweKeySwitchingParametersAnswer.{LweKeySwitchingParametersAnswer}
 use Rattle.key_switch.specs.declared.parameters.LweKeySwitchingParametersAnswer.the-variants as K
-use Rattle.key_switch.specs.Answers.{parameterRows}
-use Rattle.saigagalena.specs.Numbers.{dimension, basisWith, switchingWith}
-use Rattle.saigagalena.specs.Switch.{parametersFrom, switchParameters}
+use Rattle.key_switch.specs.Answers.{parameterRows, parametersFrom}
+use Rattle.saigagalena.specs.Numbers.{dimension, basisWith, switchingWith, switchingFor}
 use Rattle.saigagalena.proofs.Numbers.{First, first-of}
 
 -- where these rows refuse nothing, the rest decides
@@ -76,7 +75,7 @@ module _ (q b l : ℕ) where
     abbrev Dimensioned : ApproxSignedBasisAnswer → Bool → Bool → LweKeySwitchingParametersAnswer
     Dimensioned x d d′ = parametersFrom x (pick d (D.Refused 6) (D.Accepted (dimension n))) (pick d′ (D.Refused 6) (D.Accepted (dimension m)))
 
-    pub accepted-switch : (P : LweKeySwitchingParameters) → switchParameters q b l n m ≡ K.Accepted P → P ≡ switchingWith q b l n m
+    pub accepted-switch : (P : LweKeySwitchingParameters) → switchingFor q b l n m ≡ K.Accepted P → P ≡ switchingWith q b l n m
     accepted-switch P e = go (made (modulusFor q) b (levelsFor l)) refl (dimensionFails n) (dimensionFails m) e
       where
         of : ApproxSignedBasis → LweKeySwitchingParameters
@@ -95,7 +94,7 @@ module _ (q b l : ℕ) where
         first-passed (rows (basisWith q b l)) (row (dimensionFails n) 6 ∷ row (dimensionFails m) 6 ∷ []) tt h
         ∙ ap₂ (λ x y. pick x 6 (pick y 6 0)) ed ed′
 
-    pub refused-switch : (r : ℕ) → switchParameters q b l n m ≡ K.Refused r → First (parameterRows (switchingWith q b l n m)) r
+    pub refused-switch : (r : ℕ) → switchingFor q b l n m ≡ K.Refused r → First (parameterRows (switchingWith q b l n m)) r
     refused-switch r e = go (made (modulusFor q) b (levelsFor l)) refl (dimensionFails n) (dimensionFails m) refl refl e
       where
         table : List Check

@@ -20,6 +20,8 @@ use Rattle.primus_lwe.specs.declared.parameter.LweParameters.{LweParameters}
 use Rattle.primus_lwe.specs.declared.parameter.LweParametersAnswer.{LweParametersAnswer}
 use Rattle.primus_lwe.specs.declared.parameter.LweParametersAnswer.the-variants as L
 use Rattle.key_switch.specs.declared.parameters.LweKeySwitchingParameters.{LweKeySwitchingParameters}
+use Rattle.key_switch.specs.declared.parameters.LweKeySwitchingParametersAnswer.{LweKeySwitchingParametersAnswer}
+use Rattle.key_switch.specs.Answers.{parametersFor}
 
 abbrev pub embeddingFor : ℕ → PlaintextEmbedding
 embeddingFor centered = pick (eqb centered 0) Unsigned Centered
@@ -61,3 +63,7 @@ messagesFrom q t e (D.Refused r) = L.Refused r
 
 abbrev pub messagesFor : ℕ → ℕ → ℕ → ℕ → LweParametersAnswer
 messagesFor q n t e = messagesFrom q t e (dimensionFor q n)
+
+-- the parameters of a switch, judged by 1 to 6
+abbrev pub switchingFor : ℕ → ℕ → ℕ → ℕ → ℕ → LweKeySwitchingParametersAnswer
+switchingFor q b l n m = parametersFor (modulusFor q) b (levelsFor l) n m

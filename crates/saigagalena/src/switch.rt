@@ -8,42 +8,14 @@ ghost use Rattle.scheme.specs.Checks.{wordsFail, signedFail, Answers};
 ghost use Rattle.primus_reduce.specs.Ring.{sizeOf, modulusFor};
 ghost use Rattle.primus_decompose.specs.Answers.{basis};
 ghost use Rattle.key_switch.specs.Answers.{generateRefusal, switchRefusal, batchRefusal};
-ghost use Rattle.saigagalena.specs.Numbers.{basisWith, switchingWith};
-ghost use Rattle.saigagalena.specs.Switch.{dimensionsFrom, switchParameters};
+ghost use Rattle.saigagalena.specs.Numbers.{basisWith, switchingWith, switchingFor};
 use key_switch::LweKeySwitchingKey;
-use key_switch::LweKeySwitchingParameters;
 use key_switch::LweKeySwitchingParametersAnswer;
 use key_switch::key_switch_batch_to;
 use key_switch::key_switch_to;
-use primus_decompose::ApproxSignedBasis;
-use primus_decompose::ApproxSignedBasisAnswer;
-use primus_decompose::basis_for;
+use key_switch::parameters_for;
 use primus_decompose::levels_for;
-use primus_lattice::LweDimension;
-use primus_lattice::LweDimensionAnswer;
 use primus_reduce::Modulus;
-
-fn with_dimensions(
-    basis: ApproxSignedBasis,
-    n: LweDimensionAnswer,
-    m: LweDimensionAnswer,
-) -> LweKeySwitchingParametersAnswer
-    ensures { λ r. ⌜ r ≡ dimensionsFrom basis n m ⌝ }
-{
-    match n {
-        LweDimensionAnswer::Accepted(input_dimension) => match m {
-            LweDimensionAnswer::Accepted(output_dimension) => {
-                LweKeySwitchingParametersAnswer::Accepted(LweKeySwitchingParameters {
-                    basis,
-                    input_dimension,
-                    output_dimension,
-                })
-            }
-            LweDimensionAnswer::Refused(r) => LweKeySwitchingParametersAnswer::Refused(r),
-        },
-        LweDimensionAnswer::Refused(r) => LweKeySwitchingParametersAnswer::Refused(r),
-    }
-}
 
 // The first of 1 to 6 that applies, or the parameters.
 fn switch_parameters(
@@ -53,16 +25,15 @@ fn switch_parameters(
     n: usize,
     m: usize,
 ) -> LweKeySwitchingParametersAnswer
-    ensures { λ r. ⌜ r ≡ switchParameters modulus «base_log» levels n m ⌝ }
+    ensures { λ r. ⌜ r ≡ switchingFor modulus «base_log» levels n m ⌝ }
 {
-    match basis_for(Modulus::from_number(modulus), base_log, levels_for(levels)) {
-        ApproxSignedBasisAnswer::Accepted(basis) => with_dimensions(
-            basis,
-            LweDimension::try_new(n),
-            LweDimension::try_new(m),
-        ),
-        ApproxSignedBasisAnswer::Refused(r) => LweKeySwitchingParametersAnswer::Refused(r),
-    }
+    parameters_for(
+        Modulus::from_number(modulus),
+        base_log,
+        levels_for(levels),
+        n,
+        m,
+    )
 }
 
 // Entry (i, j) encrypts sᵢ × weight j under the output key. Refuses by 1 to 6, 9, 11, 12, 13, 14, 15.

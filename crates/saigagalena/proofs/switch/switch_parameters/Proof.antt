@@ -1,49 +1,15 @@
-use mathlib.Core.Path.{_≡_, ap, ap₂, sym, _∙_}
-use borrow.Author.Needs.{needs}
+use mathlib.Core.Path.{ap₂, _∙_}
 use Rattle.primus_reduce.specs.declared.modulus.Modulus.{Modulus}
 use Rattle.primus_decompose.specs.declared.parameters.RetainedLevels.{RetainedLevels}
-use Rattle.primus_decompose.specs.declared.error.ApproxSignedBasisAnswer.{ApproxSignedBasisAnswer}
-use Rattle.primus_decompose.specs.Answers.{levelsFor, made}
-use Rattle.primus_reduce.specs.Ring.{modulusFor}
-use Rattle.primus_lattice.specs.Answers.{dimensionAnswer}
-use Rattle.primus_lattice.specs.declared.dimension.LweDimensionAnswer.{LweDimensionAnswer}
-use Rattle.primus_decompose.specs.declared.error.ApproxSignedBasisAnswer.the-variants as B
-use Rattle.primus_decompose.specs.declared.primitive.basis.ApproxSignedBasis.{ApproxSignedBasis}
-use Rattle.key_switch.specs.declared.parameters.LweKeySwitchingParametersAnswer.{LweKeySwitchingParametersAnswer}
-use Rattle.saigagalena.specs.Switch.{dimensionsFrom, parametersFrom}
+use Rattle.key_switch.specs.Answers.{parametersFor}
 use Rattle.saigagalena.proofs.switch.switch_parameters.Statement.{statement}
 use Rattle.saigagalena.proofs.switch.switch_parameters.Tie as tie
 
--- what was tried is the basis of the numbers
-tried : (c : tie.After-basis-for) → let a = c .before .before .before .args in
-    c .basis-for .result ≡ made (modulusFor (a .modulus)) (a .base-log) (levelsFor (a .levels))
-tried c =
-    let a = c .before .before .before .args in
-    c .basis-for .ensures
-    ∙ ap₂ (λ (m : Modulus) (l : RetainedLevels). made m (a .base-log) l) (c .before .before .from-number .ensures) (c .before .levels-for .ensures)
-
--- an accepted basis, and the dimensions as they were tried
-from-tried : (b : ApproxSignedBasis) (t : ApproxSignedBasisAnswer) (x y X Y : LweDimensionAnswer) (r : LweKeySwitchingParametersAnswer)
-    → t ≡ B.Accepted b → x ≡ X → y ≡ Y → r ≡ dimensionsFrom b x y → r ≡ parametersFrom t X Y
-from-tried b t x y X Y r et ex ey er = er ∙ ap₂ (dimensionsFrom b) ex ey ∙ ap (λ (z : ApproxSignedBasisAnswer). parametersFrom z X Y) (sym et)
-
 returns : tie.Need-returns
 returns c =
-    let m = c .before in
-    let n = m .before in
-    let b = n .before .before in
-    let t = b .before .before in
-    let a = t .before .before .before .args in
-    from-tried _ _ _ _ (dimensionAnswer (a .n)) (dimensionAnswer (a .m)) _ (sym (tried t) ∙ b .basis .given .1) (n .try-new .ensures) (m .try-new2 .ensures) (c .with-dimensions .ensures)
-
-returns-2 : tie.Need-returns-2
-returns-2 c =
-    let r = c .before in
-    let t = r .before .before in
-    let a = t .before .before .before .args in
-    ap (λ (x : ApproxSignedBasisAnswer). parametersFrom x (dimensionAnswer (a .n)) (dimensionAnswer (a .m))) (sym (r .r .given .1) ∙ tried t)
+    let a = c .before .before .before .args in
+    c .parameters-for .ensures
+    ∙ ap₂ (λ (q : Modulus) (l : RetainedLevels). parametersFor q (a .base-log) l (a .n) (a .m)) (c .before .before .from-number .ensures) (c .before .levels-for .ensures)
 
 pub switch-parameters-spec : {M : Type 1} → statement M
-switch-parameters-spec =
-    tie.close
-    (tie.spec (λ c κs. tt) (λ c κs. tt) (λ c κs. tt) (λ c. search needs) (λ c κs. tt) (λ c κs. tt) (λ c κs. tt) (λ c. search needs) returns returns-2)
+switch-parameters-spec = tie.close (tie.spec (λ c κs. tt) (λ c κs. tt) (λ c κs. tt) returns)

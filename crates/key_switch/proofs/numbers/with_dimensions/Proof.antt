@@ -1,9 +1,9 @@
 use mathlib.Core.Path.{ap, ap₂, sym}
 use borrow.Author.Needs.{needs}
 use Rattle.primus_lattice.specs.declared.dimension.LweDimensionAnswer.{LweDimensionAnswer}
-use Rattle.saigagalena.specs.Switch.{dimensionsFrom}
-use Rattle.saigagalena.proofs.switch.with_dimensions.Statement.{statement}
-use Rattle.saigagalena.proofs.switch.with_dimensions.Tie as tie
+use Rattle.key_switch.specs.Answers.{dimensionsFrom}
+use Rattle.key_switch.proofs.numbers.with_dimensions.Statement.{statement}
+use Rattle.key_switch.proofs.numbers.with_dimensions.Tie as tie
 
 returns : tie.Need-returns
 returns c =
