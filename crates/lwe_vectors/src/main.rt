@@ -75,22 +75,10 @@ fn cut(
     let ld = l.d;
     let le = l.e;
     let lo = l.out;
-    if a.len() < la {
+    if a.len() < la || b.len() < lb || c.len() < lc {
         return said::nothing();
     }
-    if b.len() < lb {
-        return said::nothing();
-    }
-    if c.len() < lc {
-        return said::nothing();
-    }
-    if d.len() < ld {
-        return said::nothing();
-    }
-    if e.len() < le {
-        return said::nothing();
-    }
-    if out.len() < lo {
+    if d.len() < ld || e.len() < le || out.len() < lo {
         return said::nothing();
     }
     judged(

@@ -1,5 +1,4 @@
 use mathlib.Core.Path.{sym}
-use native.Mathlib.Omega.{arith}
 use lib.Seq.{length-take-le}
 use borrow.Author.Needs.{needs}
 use Rattle.lwe_vectors.proofs.cut.Statement.{statement}
@@ -8,8 +7,7 @@ use Rattle.lwe_vectors.proofs.cut.Tie as tie
 pub cut-spec : {M : Type 1} → statement M
 cut-spec =
     tie.close
-    (tie.spec (λ c κs. tt) (λ c. tt) (λ c κs. tt) (λ c. tt) (λ c κs. tt) (λ c. tt) (λ c κs. tt) (λ c. tt) (λ c κs. tt) (λ c. tt)
-    (λ c κs. tt) (λ c. tt) (λ c. sym (length-take-le _ _ (omega arith))) (λ c. sym (length-take-le _ _ (omega arith)))
-    (λ c. sym (length-take-le _ _ (omega arith))) (λ c. sym (length-take-le _ _ (omega arith)))
-    (λ c. sym (length-take-le _ _ (omega arith))) (λ c. omega arith) (λ c. sym (length-take-le _ _ (omega arith))) (λ c κs. tt)
-    (λ c. search needs) (λ c. tt))
+    (tie.spec (λ c κs. tt) (λ c. tt) (λ c κs. tt) (λ c. tt) (λ c. sym (length-take-le _ _ (search needs)))
+    (λ c. sym (length-take-le _ _ (search needs))) (λ c. sym (length-take-le _ _ (search needs)))
+    (λ c. sym (length-take-le _ _ (search needs))) (λ c. sym (length-take-le _ _ (search needs))) (λ c. search needs)
+    (λ c. sym (length-take-le _ _ (search needs))) (λ c κs. tt) (λ c. search needs) (λ c. tt))
