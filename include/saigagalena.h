@@ -175,7 +175,7 @@ uint32_t saigagalena_add(uint32_t modulus, size_t n, uint32_t *x, size_t x_len, 
 uint64_t saigagalena_add_tally(uint64_t x, uint64_t y);
 
 /* 1 where 2 t * tally + t < q, so that the ciphertext is marked good; else 0; or a refusal by 2, 7, 8, 17. The mark counts one
- * rounding: a good sum of several messages opens to their total where t divides q, so that encodings are exact. */
+ * rounding: where t does not divide q, so that encodings are rounded, a good sum of many messages may open one too high. */
 uint64_t saigagalena_is_good(uint32_t modulus, uint32_t t, uint64_t tally);
 
 /* Body `index` of a packed ciphertext as a ciphertext of one message. Refuses by 2, 6, 10 (also where there is no such

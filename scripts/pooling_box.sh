@@ -9,7 +9,8 @@ set -eu
 cd "$(dirname "${BASH_SOURCE[0]}")/.."
 if [ $# = 0 ]; then
   said=$(rt try pooling_box 2>&1) || { echo "$said"; exit 1; }
-  exec cat crates/pooling_box/stdout    # what the run has just been compared with
+  # rt try keeps no program: this is what the run has just been compared with, line for line
+  exec cat crates/pooling_box/stdout
 fi
 folder=$(cd "$1" && pwd)
 rt check pooling_box > /dev/null || { rt check pooling_box; exit 1; }
