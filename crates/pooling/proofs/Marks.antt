@@ -1,4 +1,5 @@
--- The tally of each place of a total after an accepted file: document 01's sum, so that `tally-sum` and `tally-opens` of scheme hold of it.
+-- The tally of each place of a total after an accepted file: document 01's sum, so that `tally-sum` of scheme holds of it. That a good sum opens to the sum
+-- of its messages is no theorem where t does not divide q: the mark counts one rounding (T-02).
 --     added-tally
 -- Assumes nothing.
 use mathlib.Core.Path.{_≡_, refl, ap, _∙_}

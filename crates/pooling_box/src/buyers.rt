@@ -25,7 +25,10 @@ fn print_totals(counts: [u32; 4]) {
     files::write(
         b"a switched ciphertext has no tally, so the opened total itself is never marked good:\n",
     );
-    files::write(b"it rests on the marks above and on the bound of the switching error\n");
+    files::write(
+        b"it rests on the marks above, which count one rounding a casting and the errors that\n",
+    );
+    files::write(b"the shops declare, and on the bound of the switching error\n");
 }
 
 fn with_dimension(dimension: LweDimension, modulus: Modulus, secret: &[u32], sent: &[u32]) -> u32 {
@@ -64,12 +67,18 @@ fn with_secret(h: Head, secret: &[u32], sent: &[u32], words: usize) -> u32 {
     }
 }
 
-pub(crate) fn open(sent: &[u32], words: usize) {
-    let mut secret = [0u32; 8192];
+// A secret of words, of the modulus that the total was sent with: another one would open to another total, with no refusal.
+fn is_other(h: Head, modulus: Modulus) -> bool {
+    let given = h.modulus;
+    h.kind != 1 || given.number() != modulus.number()
+}
+
+pub(crate) fn open(sent: &[u32], words: usize, modulus: Modulus) {
+    let mut secret = [0u32; 16368];
     let l = files::load(b"group_secret", &mut secret);
     let h = l.head;
-    if l.refusal != 0 || h.kind != 1 {
-        reasons::told(b"group_secret", 19);
+    if l.refusal != 0 || is_other(h, modulus) {
+        reasons::told_file(b"group_secret", 19, l.refusal == 0);
         return;
     }
     let r = with_secret(h, &secret, sent, words);

@@ -13,10 +13,11 @@ pub(crate) const BOUND: u32 = 3;
 pub(crate) const PLACES: usize = 4;
 
 fn main() {
-    let mut sent = [0u32; 8192];
-    let words = station::run(&mut sent);
-    if words == 0 {
+    let mut sent = [0u32; 8196];
+    let s = station::run(&mut sent);
+    let modulus = s.modulus;
+    if s.words == 0 {
         return;
     }
-    buyers::open(&sent, words);
+    buyers::open(&sent, s.words, modulus);
 }

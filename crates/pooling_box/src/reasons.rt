@@ -26,7 +26,7 @@ fn operands(number: u32) {
         16 => files::write(b"a message is not below the plaintext modulus"),
         17 => files::write(b"a tally, given or summed, is above 2^32"),
         18 => files::write(b"a word comes before any accepted basis"),
-        _ => files::write(b"not a whole file of this layout, or made with another modulus"),
+        _ => files::write(b"not a whole file of this layout: cut off, altered or another one"),
     }
 }
 
@@ -51,4 +51,14 @@ pub(crate) fn told(name: &[u8], number: u32) {
         return;
     }
     refused(number);
+}
+
+// The same of a file. A whole one that is refused by 19 is of another kind, or made with another q or t.
+pub(crate) fn told_file(name: &[u8], number: u32, whole: bool) {
+    if number != 19 || !whole {
+        told(name, number);
+        return;
+    }
+    files::write(name);
+    files::write(b": refused 19: a file of another kind, modulus or plaintext modulus\n");
 }

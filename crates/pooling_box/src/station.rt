@@ -30,7 +30,7 @@ fn add_shop(
 ) -> u32 {
     let len = files::read(name, bytes);
     let r = add_saved(params, &bytes[..len], total, tallies);
-    reasons::told(name, r);
+    reasons::told_file(name, r, saved::file_refusal(&bytes[..len]) == 0);
     if r == 0 {
         return 1;
     }
@@ -53,7 +53,7 @@ fn add_shops(
     rows
 }
 
-// The mark of one place: whether the sum of so many errors still opens to the right count.
+// Document 01's mark of one place. It counts one rounding, however many rows were added.
 fn print_mark(place: u64, tally: Tally, modulus: Modulus) {
     files::print(b"  casting ", place);
     match tally {
@@ -82,59 +82,46 @@ fn print_marks(tallies: [u64; 4], modulus: Modulus) {
     print_mark(4, Tally::from_number(tallies[3]), modulus);
 }
 
-// Adds, prints the marks, and switches the total into `sent`; 0, or the switch's refusal.
+// Adds the rows and prints the marks; how many rows were added.
+fn collect(pool: PoolParameters, modulus: Modulus, total: &mut [u32]) -> u32 {
+    let mut bytes = [0u8; 65536];
+    let mut tallies = [0u64; 4];
+    files::write(b"the box adds the shops' rows of four encrypted counts:\n");
+    let rows = add_shops(pool, &mut bytes, total, &mut tallies);
+    files::print(b"rows added: ", rows as u64);
+    files::write(b"\n");
+    if rows != 0 {
+        files::write(b"the total before the switch:\n");
+        print_marks(tallies, modulus);
+    }
+    rows
+}
+
+// Adds, and switches the total into `sent`: the number of words sent on, 0 where there is nothing to send.
 fn serve(
     params: LweKeySwitchingParameters,
     modulus: Modulus,
     key: &[u32],
     total: &mut [u32],
     sent: &mut [u32],
-) -> u32 {
+) -> usize {
     let dimension = params.input_dimension;
     let pool = PoolParameters {
         modulus,
         dimension,
         plaintext_modulus: PLAINTEXT_MODULUS,
     };
-    let mut bytes = [0u8; 65536];
-    let mut tallies = [0u64; 4];
-    files::write(b"the box adds the shops' rows of four encrypted counts:\n");
-    let rows = add_shops(pool, &mut bytes, total, &mut tallies);
-    files::print(b"rows added: ", rows as u64);
-    files::write(b"\nthe total before the switch:\n");
-    print_marks(tallies, modulus);
+    if collect(pool, modulus, total) == 0 {
+        files::write(b"no row was accepted, so there is nothing to send\n");
+        return 0;
+    }
     files::write(b"the box switches the total to the group's key and sends it on\n");
-    key_switch_batch_to(params, key, total, sent)
-}
-
-// The buffers cut to the lengths that the key's head gives.
-fn in_rooms(
-    h: Head,
-    params: LweKeySwitchingParameters,
-    width: usize,
-    room: usize,
-    key: &[u32],
-    total: &mut [u32],
-    sent: &mut [u32],
-) -> u32 {
-    let words = h.words as usize;
-    let modulus = h.modulus;
-    if key.len() < words {
-        return 9;
+    let r = key_switch_batch_to(params, key, total, sent);
+    if r != 0 {
+        reasons::told(b"the switch", r);
+        return 0;
     }
-    if total.len() < width {
-        return 10;
-    }
-    if sent.len() < room {
-        return 11;
-    }
-    serve(
-        params,
-        modulus,
-        &key[..words],
-        &mut total[..width],
-        &mut sent[..room],
-    )
+    sent.len()
 }
 
 // The words of four ciphertexts. A dimension above 2,048 is refused before.
@@ -145,7 +132,7 @@ fn width_of(dimension: usize) -> usize {
     PLACES * (dimension + 1)
 }
 
-// A total of four ciphertexts of n + 1 words is switched to four of m + 1; the number of words sent on, or 0.
+// A total of four ciphertexts of n + 1 words is switched to four of m + 1. No whole file and no accepted dimension is larger than the rooms.
 fn with_key(
     h: Head,
     params: LweKeySwitchingParameters,
@@ -153,13 +140,20 @@ fn with_key(
     total: &mut [u32],
     sent: &mut [u32],
 ) -> usize {
+    let words = h.words as usize;
+    let modulus = h.modulus;
+    let width = width_of(h.n);
     let room = width_of(h.m);
-    let r = in_rooms(h, params, width_of(h.n), room, key, total, sent);
-    if r != 0 {
-        reasons::told(b"the switch", r);
+    if key.len() < words || total.len() < width || sent.len() < room {
         return 0;
     }
-    room
+    serve(
+        params,
+        modulus,
+        &key[..words],
+        &mut total[..width],
+        &mut sent[..room],
+    )
 }
 
 fn parameters(h: Head) -> LweKeySwitchingParametersAnswer {
@@ -170,27 +164,42 @@ fn parameters(h: Head) -> LweKeySwitchingParametersAnswer {
     parameters_for(modulus, h.base_log, levels_for(h.levels), h.n, h.m)
 }
 
-// The switched total goes into `sent`; the answer is its number of words, 0 where there is none.
-pub(crate) fn run(sent: &mut [u32]) -> usize {
-    let mut key = [0u32; 8192];
-    let mut total = [0u32; 8192];
-    let l = files::load(b"switching_key", &mut key);
-    let h = l.head;
-    if l.refusal != 0 {
-        reasons::told(b"switching_key", l.refusal);
-        return 0;
-    }
+// What the box sends on: so many words, modulo q.
+pub(crate) struct Sent {
+    pub(crate) words: usize,
+    pub(crate) modulus: Modulus,
+}
+
+// Serves with a whole file of a switching key: the number of words sent on.
+fn with_file(h: Head, key: &[u32], sent: &mut [u32]) -> usize {
+    let mut total = [0u32; 8196];
     match parameters(h) {
         LweKeySwitchingParametersAnswer::Accepted(params) => with_key(
             h,
             params,
-            &key,
+            key,
             &mut total,
             sent,
         ),
         LweKeySwitchingParametersAnswer::Refused(r) => {
-            reasons::told(b"switching_key", r);
+            reasons::told_file(b"switching_key", r, true);
             0
         }
+    }
+}
+
+// The switched total goes into `sent`.
+pub(crate) fn run(sent: &mut [u32]) -> Sent {
+    let mut key = [0u32; 16368];
+    let l = files::load(b"switching_key", &mut key);
+    let h = l.head;
+    let modulus = h.modulus;
+    if l.refusal != 0 {
+        reasons::told_file(b"switching_key", l.refusal, false);
+        return Sent { words: 0, modulus };
+    }
+    Sent {
+        words: with_file(h, &key, sent),
+        modulus,
     }
 }

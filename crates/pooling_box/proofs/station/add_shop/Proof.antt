@@ -8,5 +8,6 @@ use Rattle.pooling_box.proofs.station.add_shop.Tie as tie
 pub add-shop-spec : {M : Type 1} → statement M
 add-shop-spec =
     tie.close
-    (tie.spec (λ c κs. tt) (λ c. search needs) (λ c. sym (length-take-le _ _ (omega arith))) (λ c κs. tt) (λ c κs. tt) (λ c. search needs)
-    (λ c. search needs) (λ c. search needs) (λ c. tt) (λ c. search needs) (λ c. search needs) (λ c. search needs) (λ c. tt))
+    (tie.spec (λ c κs. tt) (λ c. search needs) (λ c. sym (length-take-le _ _ (omega arith))) (λ c κs. tt) (λ c. search needs)
+    (λ c. sym (length-take-le _ _ (omega arith))) (λ c κs. tt) (λ c κs. tt) (λ c. search needs) (λ c. search needs) (λ c. search needs) (λ c. tt)
+    (λ c. search needs) (λ c. search needs) (λ c. search needs) (λ c. tt))
