@@ -9,10 +9,13 @@
 # The supplied files stand in ../shared/docs/src, or where PRIMUS_SRC says. ARCHIVE names the proved library;
 # target/staticlib/libsaigagalena.a is built by rt staticlib where it is not there.
 set -eu
+# Relative paths start where the caller stands.
 archive=${ARCHIVE:-}
 case $archive in '' | /*) ;; *) archive=$PWD/$archive ;; esac
+src=${PRIMUS_SRC:-}
+case $src in '' | /*) ;; *) src=$PWD/$src ;; esac
 cd "$(dirname "$0")/.."
-src=${PRIMUS_SRC:-../shared/docs/src}/crates
+src=${src:-../shared/docs/src}/crates
 build=target/oracle
 [ -d "$src" ] || { echo "oracle: the supplied files are not at $src; set PRIMUS_SRC"; exit 1; }
 rm -rf "$build"
