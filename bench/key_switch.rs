@@ -264,7 +264,37 @@ fn compare_words(words: &mut Words) {
     );
 }
 
-fn compare_times(words: &mut Words) {
+/// Times of ours and of each of the Rust's sides, in turn.
+fn time_sides(case: &mut Case, sides: &[By]) -> (Vec<f64>, Vec<Vec<f64>>) {
+    case.time_ours();
+    let mut ours = Vec::new();
+    let mut rust = vec![Vec::new(); sides.len()];
+    for _ in 0..if case.n == 2048 { 7 } else { 15 } {
+        for (by, times) in sides.iter().zip(&mut rust) {
+            ours.push(case.time_ours());
+            times.push(case.time_rust(*by));
+            case.assert_same();
+        }
+    }
+    (ours, rust)
+}
+
+fn print_times(case: &Case, by: By, ours: &mut [f64], rust: &mut [f64]) {
+    println!(
+        "| {} | {} / {} | {} | {} | {:.1} | {:.1} | {:.2} | {:.2} |",
+        modulus_name(case.modulus),
+        case.n,
+        case.m,
+        case.level_count(),
+        by.name(),
+        least(ours) * 1e3,
+        least(rust) * 1e3,
+        least(ours) / least(rust),
+        median(ours) / median(rust),
+    );
+}
+
+fn print_times_head() {
     println!(
         "Batch of {BATCH}, base log {BASE_LOG}, levels left open. Least processor time of each side, the sides in turn."
     );
@@ -275,6 +305,10 @@ fn compare_times(words: &mut Words) {
         "| modulus | n / m | levels | the Rust reduces by | ours, ms | Rust, ms | ours / Rust | by medians |"
     );
     println!("|---|---|---|---|---|---|---|---|");
+}
+
+fn compare_times(words: &mut Words) {
+    print_times_head();
     let moduli: [(u32, &[By]); 3] = [
         (0, &[By::Wrap]),
         (65_536, &[By::LowBits, By::Barrett]),
@@ -289,27 +323,9 @@ fn compare_times(words: &mut Words) {
                 .copied()
                 .filter(|&by| by != By::Remainder || n < 1000)
                 .collect();
-            case.time_ours();
-            let mut ours = Vec::new();
-            let mut rust = vec![Vec::new(); sides.len()];
-            for _ in 0..if n == 2048 { 7 } else { 15 } {
-                for (by, times) in sides.iter().zip(&mut rust) {
-                    ours.push(case.time_ours());
-                    times.push(case.time_rust(*by));
-                    case.assert_same();
-                }
-            }
+            let (mut ours, mut rust) = time_sides(&mut case, &sides);
             for (by, times) in sides.iter().zip(&mut rust) {
-                println!(
-                    "| {} | {n} / {m} | {} | {} | {:.1} | {:.1} | {:.2} | {:.2} |",
-                    modulus_name(modulus),
-                    case.level_count(),
-                    by.name(),
-                    least(&ours) * 1e3,
-                    least(times) * 1e3,
-                    least(&ours) / least(times),
-                    median(&mut ours) / median(times),
-                );
+                print_times(&case, *by, &mut ours, times);
             }
         }
     }

@@ -73,76 +73,82 @@ struct Lengths {
     out: u128,
 }
 
+fn writing(out: u128) -> Lengths {
+    Lengths {
+        out,
+        ..Lengths::default()
+    }
+}
+
+fn opening(n: u128, out: u128) -> Lengths {
+    Lengths {
+        secret: n,
+        ..writing(out)
+    }
+}
+
+fn encrypting(n: u128, masks: u128, errors: u128, out: u128) -> Lengths {
+    Lengths {
+        masks,
+        errors,
+        ..opening(n, out)
+    }
+}
+
+fn public_encrypting(n: u128) -> Lengths {
+    Lengths {
+        key: n * (n + 1),
+        errors: n + 1,
+        coefficients: n,
+        ..writing(n + 1)
+    }
+}
+
+/// Of a switching key; lengths that no operand can have stay too large.
+fn entries(call: &Call) -> u128 {
+    (call.n as u128).saturating_mul(call.level_count() as u128)
+}
+
+fn generating(call: &Call) -> Lengths {
+    let (n, m, entries) = (call.n as u128, call.m as u128, entries(call));
+    let (masks, out) = (entries.saturating_mul(m), entries.saturating_mul(m + 1));
+    Lengths {
+        output_key: m,
+        ..encrypting(n, masks, entries, out)
+    }
+}
+
+fn switching(call: &Call, rows: u128) -> Lengths {
+    let width = call.m as u128 + 1;
+    Lengths {
+        key: entries(call).saturating_mul(width),
+        ..writing(rows * width)
+    }
+}
+
 fn lengths(call: &Call) -> Lengths {
     use Kind::*;
-    let (n, m, count) = (call.n as u128, call.m as u128, call.input.len() as u128);
-    let entries = n.saturating_mul(call.level_count() as u128);
-    let single = Lengths {
-        secret: n,
-        masks: n,
-        errors: 1,
-        out: n + 1,
-        ..Lengths::default()
-    };
-    let opening = |out| Lengths {
-        secret: n,
-        out,
-        ..Lengths::default()
-    };
-    let out = |out| Lengths {
-        out,
-        ..Lengths::default()
-    };
+    let (n, count) = (call.n as u128, call.input.len() as u128);
     match call.kind {
-        Basis => out(6),
-        Reading => out(2),
-        DigitsSingle | Digits => out(call.level_count() as u128 * count),
-        Encode | Decode => out(0),
-        EncodeSlice | DecodeSlice => out(count),
-        EncryptEncoded | EncryptEncodedSigned | EncryptMessage | EncryptMessageSigned => single,
-        EncryptMessageBatch => Lengths {
-            masks: n * count,
-            errors: count,
-            out: (n + 1) * count,
-            ..single
-        },
-        PackEncoded | PackMessage => Lengths {
-            errors: count,
-            out: n + count,
-            ..single
-        },
-        Phase | PhaseSigned | Message | MessageSigned => opening(0),
-        PhaseBatch | MessageBatch => opening(count / (n + 1)),
-        PhasePacked | MessagePacked => opening(count.saturating_sub(n)),
-        PublicKey | PublicKeySigned => Lengths {
-            masks: n * n,
-            errors: n,
-            out: n * (n + 1),
-            ..single
-        },
-        PublicEncoded | PublicMessage => Lengths {
-            key: n * (n + 1),
-            errors: n + 1,
-            coefficients: n,
-            ..out(n + 1)
-        },
-        Extract => out(n + 1),
-        Generate | GenerateSigned => Lengths {
-            secret: n,
-            output_key: m,
-            masks: entries.saturating_mul(m),
-            errors: entries,
-            out: entries.saturating_mul(m + 1),
-            ..single
-        },
-        Switch => Lengths {
-            key: entries.saturating_mul(m + 1),
-            ..out(m + 1)
-        },
-        SwitchBatch => Lengths {
-            key: entries.saturating_mul(m + 1),
-            ..out(count / (n + 1) * (m + 1))
-        },
+        Basis => writing(6),
+        Reading => writing(2),
+        DigitsSingle | Digits => writing(call.level_count() as u128 * count),
+        Encode | Decode => writing(0),
+        EncodeSlice | DecodeSlice => writing(count),
+        EncryptEncoded | EncryptEncodedSigned | EncryptMessage | EncryptMessageSigned => {
+            encrypting(n, n, 1, n + 1)
+        }
+        EncryptMessageBatch => encrypting(n, n * count, count, (n + 1) * count),
+        PackEncoded | PackMessage => encrypting(n, n, count, n + count),
+        Phase | PhaseSigned | Message | MessageSigned => opening(n, 0),
+        PhaseBatch | MessageBatch => opening(n, count / (n + 1)),
+        PhasePacked | MessagePacked => opening(n, count.saturating_sub(n)),
+        PublicKey | PublicKeySigned => encrypting(n, n * n, n, n * (n + 1)),
+        PublicEncoded | PublicMessage => public_encrypting(n),
+        Extract => writing(n + 1),
+        Generate | GenerateSigned => generating(call),
+        Switch => switching(call, 1),
+        SwitchBatch => switching(call, count / (n + 1)),
     }
 }
 

@@ -89,47 +89,53 @@ def expressible(modulus):
     return modulus is None or modulus > 0
 
 
+def digit_records(data):
+    """Each record's form, and its fields."""
+    at = 0
+    while data[at]:
+        form = {1: BASIS, 2: WORD}.get(data[at], SHORT_WORD)
+        yield form, form.unpack_from(data, at)
+        at += form.size
+
+
+def stored_basis(rust, tally, fields):
+    """The operands and L of a basis, or None where 01 refuses it."""
+    _, kind, q, log, given, levels, refusal, _, L, d, H, _, *weights = fields
+    modulus = modulus_of(kind, q)
+    sayable = expressible(modulus) and levels < 2**32 and not (given and levels == 0)
+    record = (modulus, log, levels if given else 0)
+    if refusal == 0:
+        tally.same("bases", record, [L, d, H, *weights[:L]], rust.words(1, *record))
+        return record, L
+    if sayable:
+        tally.refused(refusal, rust.say(1, *record)[0])
+    return None
+
+
+def same_digits(rust, tally, basis, L, words, expected):
+    """All words of a basis at once: a run of words gives a run of digits for each level."""
+    runs = [digits[j] for j in range(L) for digits in expected]
+    for call, name in ((2, "digits of words, by slices"), (3, "digits of words, one by one")):
+        tally.same(name, basis, runs, rust.words(call, *basis, words))
+        tally.compared[name] += len(words) - 1
+
+
 def stored_digits(rust, tally):
     data = (ROOT / "crates/digit_vectors/data/digits.bin").read_bytes()
-    at, basis, words, expected = 0, None, [], []
-
-    def flush():
-        if words:
-            L = len(expected[0])
-            runs = [digits[j] for j in range(L) for digits in expected]
-            for call, name in ((2, "digits of words, by slices"), (3, "digits of words, one by one")):
-                tally.same(name, basis, runs, rust.words(call, *basis, words))
-                tally.compared[name] += len(words) - 1
-        words.clear()
-        expected.clear()
-
-    L = 0
-    while data[at]:
-        if data[at] == 1:
-            flush()
-            _, kind, q, log, given, levels, refusal, _, count, d, H, _, *weights = BASIS.unpack_from(data, at)
-            at += BASIS.size
-            modulus = modulus_of(kind, q)
-            sayable = expressible(modulus) and levels < 2**32 and not (given and levels == 0)
-            record = (modulus, log, levels if given else 0)
-            if refusal == 0:
-                basis, L = record, count
-                tally.same("bases", record, [L, d, H, *weights[:L]], rust.words(1, *record))
-            elif sayable:
-                tally.refused(refusal, rust.say(1, *record)[0])
-            continue
-        if data[at] == 2:
-            _, word, refusal, _, _, *digits = WORD.unpack_from(data, at)
-            at += WORD.size
-            if refusal:
-                tally.refused(refusal, rust.say(3, *basis, [word])[0])
-                continue
+    basis, L, words, expected = None, 0, [], []
+    for form, fields in digit_records(data):
+        if form is BASIS:
+            if words:
+                same_digits(rust, tally, basis, L, words, expected)
+            basis, L = stored_basis(rust, tally, fields) or (basis, L)
+            words, expected = [], []
+        elif form is WORD and fields[2]:
+            tally.refused(fields[2], rust.say(3, *basis, [fields[1]])[0])
         else:
-            _, word, _, _, *digits = SHORT_WORD.unpack_from(data, at)
-            at += SHORT_WORD.size
-        words.append(word)
-        expected.append(digits[:L])
-    flush()
+            words.append(fields[1])
+            expected.append(fields[5 if form is WORD else 4 :][:L])
+    if words:
+        same_digits(rust, tally, basis, L, words, expected)
 
 
 def stored_codec(rust, tally):

@@ -145,13 +145,20 @@ fn encryption_call(c: &Call) -> Said {
             [secret, masks, errors],
             c.value()
         ),
-        Kind::EncryptMessageSigned => writing!(
+        _ => writing!(
             c,
             saigagalena_encrypt_message_signed,
             [q, n, t, bound, centered],
             [secret, masks, errors],
             c.value()
         ),
+    }
+}
+
+/// Of many words or messages: a batch, or packed.
+fn run_encryption_call(c: &Call) -> Said {
+    let (q, n, t, bound, centered) = (c.modulus, c.n, c.t, c.bound, c.centered);
+    match c.kind {
         Kind::EncryptMessageBatch => writing!(
             c,
             saigagalena_encrypt_message_batch,
@@ -189,12 +196,19 @@ fn opening_call(c: &Call) -> Said {
             [q, n, t, bound],
             [secret, input]
         ),
-        Kind::MessageSigned => answering!(
+        _ => answering!(
             c,
             saigagalena_decrypt_message_signed,
             [q, n, t, bound],
             [secret, input]
         ),
+    }
+}
+
+/// Of a batch, or of what was packed.
+fn run_opening_call(c: &Call) -> Said {
+    let (q, n, t, bound) = (c.modulus, c.n, c.t, c.bound);
+    match c.kind {
         Kind::PhaseBatch => writing!(
             c,
             saigagalena_decrypt_phase_batch,
@@ -289,10 +303,12 @@ pub fn said(c: &Call) -> Said {
     match c.kind {
         Basis | Reading | DigitsSingle | Digits => basis_call(c),
         Encode | Decode | EncodeSlice | DecodeSlice => codec_call(c),
-        EncryptEncoded | EncryptEncodedSigned | EncryptMessage | EncryptMessageSigned
-        | EncryptMessageBatch | PackEncoded | PackMessage => encryption_call(c),
-        Phase | PhaseSigned | Message | MessageSigned | PhaseBatch | MessageBatch | PhasePacked
-        | MessagePacked => opening_call(c),
+        EncryptEncoded | EncryptEncodedSigned | EncryptMessage | EncryptMessageSigned => {
+            encryption_call(c)
+        }
+        EncryptMessageBatch | PackEncoded | PackMessage => run_encryption_call(c),
+        Phase | PhaseSigned | Message | MessageSigned => opening_call(c),
+        PhaseBatch | MessageBatch | PhasePacked | MessagePacked => run_opening_call(c),
         PublicKey | PublicKeySigned | PublicEncoded | PublicMessage => public_call(c),
         Extract => writing!(c, saigagalena_extract, [c.modulus, c.n], [input], c.index),
         Generate | GenerateSigned | Switch | SwitchBatch => switching_call(c),

@@ -4,6 +4,9 @@
 # them. No part of the gate: it wants a C compiler on x86-64 (CC, default cc; CXX, default c++, is left out where there
 # is none; so are the sanitizers, and rustc for the example in Rust).
 set -eu
+# A relative path starts where the caller stands.
+archive=${ARCHIVE:-}
+case $archive in '' | /*) ;; *) archive=$PWD/$archive ;; esac
 cd "$(dirname "$0")/.."
 cc=${CC:-cc}
 cxx=${CXX:-c++}
@@ -13,7 +16,6 @@ strict="-Wall -Wextra -Wpedantic -Werror -Iinclude"
 harness="tests/c/compare.c tests/c/place.c tests/c/draw.c tests/c/damage.c tests/c/library.c"
 model="tests/c/model.c tests/c/lengths.c tests/c/results.c"
 
-archive=${ARCHIVE:-}
 if [ -z "$archive" ]; then
     rt staticlib saigagalena >"$room/log" 2>&1 || { cat "$room/log"; exit 1; }
     archive=target/staticlib/libsaigagalena.a

@@ -6,13 +6,16 @@
 #   scripts/oracle.sh faults [SEED]      plants faults in the comparison and says whether each is noticed
 #   scripts/oracle.sh sample [--check]   writes the stored sample of the Rust's answers, or asks again and compares
 #   scripts/oracle.sh build              builds target/oracle/oracle only
-# The supplied files stand in ../shared/docs/src, or where PRIMUS_SRC says. ARCHIVE names the proved library;
-# target/staticlib/libsaigagalena.a is built by rt staticlib where it is not there.
+# The supplied files stand in ../shared/docs/src, or where PRIMUS_SRC says. The proved library is built with
+# `rt staticlib saigagalena` on every run, so that the code as it stands is judged; ARCHIVE names one built already.
 set -eu
+# Relative paths start where the caller stands.
 archive=${ARCHIVE:-}
 case $archive in '' | /*) ;; *) archive=$PWD/$archive ;; esac
+src=${PRIMUS_SRC:-}
+case $src in '' | /*) ;; *) src=$PWD/$src ;; esac
 cd "$(dirname "$0")/.."
-src=${PRIMUS_SRC:-../shared/docs/src}/crates
+src=${src:-../shared/docs/src}/crates
 build=target/oracle
 [ -d "$src" ] || { echo "oracle: the supplied files are not at $src; set PRIMUS_SRC"; exit 1; }
 rm -rf "$build"
@@ -80,8 +83,8 @@ case ${1:-} in
         ;;
 esac
 if [ -z "$archive" ]; then
+    rt staticlib saigagalena >"$build/staticlib.log" 2>&1 || { cat "$build/staticlib.log"; exit 1; }
     archive=target/staticlib/libsaigagalena.a
-    [ -e "$archive" ] || rt staticlib saigagalena >"$build/staticlib.log" 2>&1 || { cat "$build/staticlib.log"; exit 1; }
 fi
 cp "$archive" "$build/libsaigagalena.a"
 rust --extern supplied="$build/libsupplied.rlib" -L native="$build" -l static=saigagalena oracle/random.rs -o "$build/random"

@@ -107,27 +107,31 @@ def cut_off(command):
     return [command[:length] for length in range(1, len(command))]
 
 
-def runs():
-    q17 = basis(17, 2)
-    yield "sample of 01", SAMPLE_INPUT
-    yield "empty input", b""
-    yield "words before any basis, then a basis", words(0, 2**32 - 1) + q17 + words(9, 16)
+Q17 = basis(17, 2)
+
+
+def unreadable_runs():
+    """Unknown commands, and commands cut off."""
     for byte in (0x00, 0x03, 0xFF):
-        unknown = bytes([byte]) + q17 + words(9)
+        unknown = bytes([byte]) + Q17 + words(9)
         yield f"unknown {byte:02x} first, rest ignored", unknown
-        yield f"unknown {byte:02x} after a basis, rest ignored", q17 + words(9) + unknown
+        yield f"unknown {byte:02x} after a basis, rest ignored", Q17 + words(9) + unknown
     # The operand bytes are commands themselves, should a reader slip by one.
     for command in (b"\x01\x01\x02\x01\x02\x02\x01", b"\x02\x02\x01\x00\x00"):
         for part in cut_off(command):
             title = f"{part[0]:02x} cut off after {len(part) - 1} operand bytes"
             yield f"{title}, no basis", part
-            yield f"{title}, after a basis", q17 + words(12) + part
+            yield f"{title}, after a basis", Q17 + words(12) + part
+
+
+def refused_runs():
+    """Bases and words that are refused; the run goes on."""
     kept = words(9, 10, 11, 12, 16)
-    yield "refused bases 1 2 3 5 keep the earlier one", q17 + kept + b"".join(
+    yield "refused bases 1 2 3 5 keep the earlier one", Q17 + kept + b"".join(
         refused + kept
         for refused in (basis(17, 1), basis(17, 32), basis(3, 2), basis(17, 5), basis(17, 2, 3))
     )
-    yield "two checks fail, the lower number is given", q17 + b"".join(
+    yield "two checks fail, the lower number is given", Q17 + b"".join(
         (basis(3, 0, 9), basis(3, 255, 9), basis(1, 31), basis(3, 2, 9), basis(17, 5, 9),
          basis(0, 32, 9), basis(0, 31, 2), basis(0, 16, 255))
     ) + kept
@@ -135,12 +139,13 @@ def runs():
         refused + words(0)
         for refused in (basis(0, 1), basis(2, 2), basis(7, 3), basis(16, 2, 3))
     )
-    yield "words not below q, going on", q17 + words(16, 17, 18, 2**31, 2**32 - 1, 11) + (
+    yield "words not below q, going on", Q17 + words(16, 17, 18, 2**31, 2**32 - 1, 11) + (
         basis(2**32 - 1, 8) + words(2**32 - 2, 2**32 - 1, 0)
     )
-    yield "every word of q 16 and 17, levels open and given", b"".join(
-        basis(q, 2, levels) + words(*range(q)) for q in (16, 17) for levels in (0, 1, 2)
-    )
+
+
+def large_runs():
+    """Native and large explicit moduli, words where readings change sign."""
     yield "native, base logs 2 4 31, open", words(0) + b"".join(
         turning_words(0, base_log) for base_log in (2, 4, 31)
     )
@@ -156,6 +161,18 @@ def runs():
         for q in (2**32 - 1, 2**31 + 1, 2**32 - 5)
         for base_log, levels in ((2, 0), (2, 5), (7, 0), (8, 3), (31, 0))
     )
+
+
+def runs():
+    yield "sample of 01", SAMPLE_INPUT
+    yield "empty input", b""
+    yield "words before any basis, then a basis", words(0, 2**32 - 1) + Q17 + words(9, 16)
+    yield from unreadable_runs()
+    yield from refused_runs()
+    yield "every word of q 16 and 17, levels open and given", b"".join(
+        basis(q, 2, levels) + words(*range(q)) for q in (16, 17) for levels in (0, 1, 2)
+    )
+    yield from large_runs()
     yield "several bases in turn", b"".join(
         basis(q, base_log, levels) + words(3, 1000, 40000, 2**31)
         for q, base_log, levels in (

@@ -60,87 +60,96 @@ class Drawn:
         return [0, t - 1] + [self.draw.below(t) for _ in range(count - 2)]
 
 
-def setting(modulus, seed):
-    """The files of one modulus: name -> bytes."""
-    d = Drawn(modulus, seed)
-    q, n, m = d.q, N, M
-    basis, codec = Basis(modulus, BASE_LOG), Codec(modulus, T)
-    L, files = basis.L, {}
+class Setting(Drawn):
+    """The files of one modulus, name -> bytes. Most methods draw: the order of the calls decides what is stored."""
 
-    def put(name, kind, words, **more):
-        files[name] = saved(kind, modulus, words, **more)
+    def __init__(self, modulus, seed):
+        super().__init__(modulus, seed)
+        self.basis, self.codec, self.files = Basis(modulus, BASE_LOG), Codec(modulus, T), {}
 
-    def put_messages(name, messages):
-        put(name + ".opens", MESSAGES, messages, t=T, count=len(messages))
+    def put(self, name, kind, words, **more):
+        self.files[name] = saved(kind, self.modulus, words, **more)
 
-    def put_ciphertexts(name, rows, dimension, messages, tally=None):
+    def put_messages(self, name, messages):
+        self.put(name + ".opens", MESSAGES, messages, t=T, count=len(messages))
+
+    def put_ciphertexts(self, name, rows, secret, messages, tally=None):
+        assert [self.codec.decode(phase_of(self.q, row, secret)) for row in rows] == messages
         words = [w for row in rows for w in row]
         tallies = None if tally is None else [tally] * len(rows)
-        put(name, CIPHERTEXTS, words, n=dimension, t=T, bound=E, count=len(rows), tallies=tallies)
-        put_messages(name, messages)
+        self.put(name, CIPHERTEXTS, words, n=len(secret), t=T, bound=E, count=len(rows), tallies=tallies)
+        self.put_messages(name, messages)
 
-    def opens(rows, s, messages):
-        assert [codec.decode(phase_of(q, row, s)) for row in rows] == messages
+    def secrets(self):
+        secret = [x % self.q for x in self.ternary(N)]
+        signed = self.ternary(N)
+        group = [x % self.q for x in self.ternary(M)]
+        self.put("secret", SECRET, secret, n=N)
+        self.put("signed_secret", SIGNED_SECRET, signed, n=N)
+        self.put("group_secret", SECRET, group, n=M)
+        return secret, signed, group
 
-    def encrypted(s, centered, count):
-        masks, errors, messages = d.words(count * n), d.errors(count, E), d.messages(count, T)
-        plain = [codec.embed(x, centered) for x in messages]
-        rows = rows_of(encrypted_rows(q, n, masks, s, errors, plain), n + 1)
-        opens(rows, s, messages)
-        return rows, messages
-
-    def switching_key(s, group):
-        masks, errors = d.words(n * L * m), d.errors(n * L, E)
-        key = generated(basis, n, s, group, errors, masks)
-        obeys(basis, n, m, s, group, errors, E, key, Drawn(modulus, 0).words(n + 1))
+    def switching_key(self, name, secret, group):
+        L = self.basis.L
+        masks, errors = self.words(N * L * M), self.errors(N * L, E)
+        key = generated(self.basis, N, secret, group, errors, masks)
+        obeys(self.basis, N, M, secret, group, errors, E, key, Drawn(self.modulus, 0).words(N + 1))
+        self.put(name, SWITCHING_KEY, key, n=N, m=M, base_log=BASE_LOG, levels=L, bound=E)
         return key
 
-    secret = [x % q for x in d.ternary(n)]
-    signed = d.ternary(n)
-    group = [x % q for x in d.ternary(m)]
-    put("secret", SECRET, secret, n=n)
-    put("signed_secret", SIGNED_SECRET, signed, n=n)
-    put("group_secret", SECRET, group, n=m)
+    def public_key(self, secret):
+        masks, errors = self.words(N * N), self.errors(N, E)
+        key = encrypted_rows(self.q, N, masks, secret, errors, [0] * N)
+        self.put("public_key", PUBLIC_KEY, key, n=N, bound=E)
+        return key
 
-    key, signed_key = switching_key(secret, group), switching_key(signed, group)
-    shape = dict(n=n, m=m, base_log=BASE_LOG, levels=L, bound=E)
-    put("switching_key", SWITCHING_KEY, key, **shape)
-    put("signed_switching_key", SWITCHING_KEY, signed_key, **shape)
+    def fresh(self, name, secret, centered):
+        masks, errors, messages = self.words(4 * N), self.errors(4, E), self.messages(4, T)
+        plain = [self.codec.embed(x, centered) for x in messages]
+        rows = rows_of(encrypted_rows(self.q, N, masks, secret, errors, plain), N + 1)
+        self.put_ciphertexts(name, rows, secret, messages, E)
+        return rows, messages
 
-    masks, errors = d.words(n * n), d.errors(n, E)
-    public = encrypted_rows(q, n, masks, secret, errors, [0] * n)
-    put("public_key", PUBLIC_KEY, public, n=n, bound=E)
+    def summed(self, secret, rows, messages):
+        """Each fresh ciphertext and the one after it, round."""
+        sums = [[(x + y) % self.q for x, y in zip(a, b)] for a, b in zip(rows, rows[1:] + rows[:1])]
+        opened = [(x + y) % T for x, y in zip(messages, messages[1:] + messages[:1])]
+        self.put_ciphertexts("summed", sums, secret, opened, 2 * E)
+        return sums, opened
 
-    fresh, messages = encrypted(secret, False, 4)
-    put_ciphertexts("fresh", fresh, n, messages, E)
-    signed_fresh, signed_messages = encrypted(signed, True, 4)
-    put_ciphertexts("signed_fresh", signed_fresh, n, signed_messages, E)
+    def packed(self, secret):
+        mask, errors, messages = self.words(N), self.errors(N // 2, E), self.messages(N // 2, T)
+        words = packed(self.q, N, mask, secret, errors, [self.codec.embed(x, False) for x in messages])
+        assert [self.codec.decode(p) for p in packed_phases(self.q, N, words, secret)] == messages
+        self.put("packed", PACKED, words, n=N, t=T, bound=E, count=len(messages))
+        self.put_messages("packed", messages)
 
-    # each fresh ciphertext and the one after it, round
-    summed = [[(x + y) % q for x, y in zip(a, b)] for a, b in zip(fresh, fresh[1:] + fresh[:1])]
-    sums = [(x + y) % T for x, y in zip(messages, messages[1:] + messages[:1])]
-    opens(summed, secret, sums)
-    put_ciphertexts("summed", summed, n, sums, 2 * E)
+    def public(self, secret, key):
+        rows, messages = [], self.messages(3, T)
+        for message in messages:
+            errors, coefficients = self.errors(N + 1, E), self.ternary(N)
+            rows.append(public_encrypted(self.q, N, key, errors, coefficients, self.codec.embed(message, False)))
+        self.put_ciphertexts("public", rows, secret, messages)
 
-    mask, errors, many = d.words(n), d.errors(n // 2, E), d.messages(n // 2, T)
-    words = packed(q, n, mask, secret, errors, [codec.embed(x, False) for x in many])
-    assert [codec.decode(p) for p in packed_phases(q, n, words, secret)] == many
-    put("packed", PACKED, words, n=n, t=T, bound=E, count=len(many))
-    put_messages("packed", many)
+    def switched(self, name, key, group, rows, messages):
+        self.put_ciphertexts(name, [switched(self.basis, N, M, key, x) for x in rows], group, messages)
 
-    rows, told = [], []
-    for message in d.messages(3, T):
-        errors, coefficients = d.errors(n + 1, E), d.ternary(n)
-        rows.append(public_encrypted(q, n, public, errors, coefficients, codec.embed(message, False)))
-        told.append(message)
-    opens(rows, secret, told)
-    put_ciphertexts("public", rows, n, told)
 
-    for name, source, by, opened in (("switched", summed, key, sums), ("signed_switched", signed_fresh, signed_key, signed_messages)):
-        rows = [switched(basis, n, m, by, x) for x in source]
-        opens(rows, group, opened)
-        put_ciphertexts(name, rows, m, opened)
-    return files
+def setting(modulus, seed):
+    """The files of one modulus: name -> bytes."""
+    s = Setting(modulus, seed)
+    secret, signed, group = s.secrets()
+    key = s.switching_key("switching_key", secret, group)
+    signed_key = s.switching_key("signed_switching_key", signed, group)
+    public = s.public_key(secret)
+    fresh = s.fresh("fresh", secret, False)
+    signed_fresh = s.fresh("signed_fresh", signed, True)
+    summed = s.summed(secret, *fresh)
+    s.packed(secret)
+    s.public(secret, public)
+    s.switched("switched", key, group, *summed)
+    s.switched("signed_switched", signed_key, group, *signed_fresh)
+    return s.files
 
 
 # --- The pooling box: counts of four castings from each shop, under the shops' key ---

@@ -318,46 +318,64 @@ def refused_cases(draw, call, basis):
                     yield draw.choose(both)
 
 
-def files():
-    draw = Draw(20261116)
-    out = []
-    # Document 01's own cases: entries (3, 5) and (4, 13); (9, 12) and (10, 12) both give (10, 11).
+def stated_records():
+    """Document 01's own cases: entries (3, 5) and (4, 13); (9, 12) and (10, 12) both give (10, 11)."""
     for b in ([9, 12], [10, 12]):
         k = Case(17, 1, m=1, base_log=2, levels=OPEN, a=[3, 5, 4, 13], b=b, out=[0, 0])
         assert Switch().result(k) == (0, [10, 11])
-        out.append(record(Switch(), k))
+        yield record(Switch(), k)
     k = Case(17, 1, m=1, base_log=2, levels=OPEN, E=1, a=[1], c=[1], b=[3, 4], e=[0, 1], out=[0] * 4)
     assert Generate().result(k) == (0, [3, 5, 4, 13])
-    out.append(record(Generate(), k))
+    yield record(Generate(), k)
+
+
+def single_records(draw):
     for basis in BASES:
         for n, m in SIZES:
             if n * m > 9 and draw.below(3):
                 continue
             p = Pick(draw, *basis, n, m)
-            out.append(record(Parameters(), Parameters().make(p)))
+            yield record(Parameters(), Parameters().make(p))
             if n * p.L * (m + 1) <= 600:
-                out.extend(record(call, call.make(p)) for call in (Generate(), GenerateSigned()))
-            out.append(record(Switch(), Switch().make(p)))
-    # Rows around a tile of eight, and more than one.
+                yield from (record(call, call.make(p)) for call in (Generate(), GenerateSigned()))
+            yield record(Switch(), Switch().make(p))
+
+
+def batch_records(draw):
+    """Rows around a tile of eight, and more than one."""
     for basis in BASES:
         for count in (0, 1, 7, 8, 9, 17):
             n, m = draw.choose([(1, 1), (2, 1), (1, 3), (3, 2), (5, 4)])
-            out.append(record(Batch(), Batch().make(Pick(draw, *basis, n, m), count)))
+            yield record(Batch(), Batch().make(Pick(draw, *basis, n, m), count))
     for basis in ((None, 2, OPEN), (2**32 - 5, 4, OPEN), (65536, 4, OPEN)):
-        out.append(record(Batch(), Batch().make(Pick(draw, *basis, 20, 18), 17)))
-    # Every refusal alone, and each pair that can be had together.
+        yield record(Batch(), Batch().make(Pick(draw, *basis, 20, 18), 17))
+
+
+def refused_records(draw):
+    """Every refusal alone, and each pair that can be had together."""
     for basis in ((None, 4, OPEN), (17, 2, OPEN), (65536, 4, 2), (2**31 - 1, 30, OPEN)):
         for call in CALLS:
-            out.extend(record(call, k) for k in refused_cases(draw, call, basis))
-    # The largest dimension.
-    p = Pick(draw, 17, 4, 1, 2048, 1)
-    out.append(record(Switch(), Switch().make(p)))
-    p = Pick(draw, None, 31, 1, 1, 2048)
-    out.append(record(Switch(), Switch().make(p)))
-    # Entries: each of a key, and the places and levels past the last.
+            yield from (record(call, k) for k in refused_cases(draw, call, basis))
+
+
+def largest_records(draw):
+    for pick in ((17, 4, 1, 2048, 1), (None, 31, 1, 1, 2048)):
+        yield record(Switch(), Switch().make(Pick(draw, *pick)))
+
+
+def entry_records(draw):
+    """Each entry of a key, and the places and levels past the last."""
     for basis in ((None, 4, OPEN), (17, 2, OPEN), (65536, 4, 2)):
         p = Pick(draw, *basis, 2, 3)
-        out.extend(record(Entry(), Entry().make(p, i, j)) for i in (0, 1, 2, WORD_MAX) for j in (0, p.L - 1, p.L, WORD_MAX))
+        for i in (0, 1, 2, WORD_MAX):
+            yield from (record(Entry(), Entry().make(p, i, j)) for j in (0, p.L - 1, p.L, WORD_MAX))
+
+
+def files():
+    draw = Draw(20261116)
+    out = list(stated_records())
+    for records in (single_records, batch_records, refused_records, largest_records, entry_records):
+        out.extend(records(draw))
     return {"crates/lwe_vectors/data/switch.bin": b"".join(out) + bytes(HEAD.size)}
 
 
