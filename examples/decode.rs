@@ -4,13 +4,12 @@
 #[path = "../include/saigagalena.rs"]
 mod saigagalena;
 
-use saigagalena::{saigagalena_decode, saigagalena_encode};
+use saigagalena::{REFUSED, saigagalena_decode, saigagalena_encode};
 
 const NATIVE: u32 = 0;
 const T: u32 = 16;
-const REFUSED: u64 = 1 << 32;
 
-/// The result, or the refusal number.
+/// The word or message, or the refusal number.
 fn answered(answer: u64) -> Result<u32, u64> {
     u32::try_from(answer).map_err(|_| answer - REFUSED)
 }

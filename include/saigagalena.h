@@ -14,9 +14,9 @@
  *
  * A call that writes returns 0, or the first refusal number that applies; refused, it has written nothing. A call that
  * answers one number returns it as 64 bits, or SAIGAGALENA_REFUSED plus the first refusal number that applies.
- * Every length and every number is judged. What no number can say is the caller's to see to: each pointer is good
- * for its length, and a buffer that is written overlaps no other.
- * Nothing is allocated or kept; the stack used stays below 256 KiB; calls from several threads are fine.
+ * Every length and every number is judged. What no number can say is the caller's to see to: each pointer is aligned for its
+ * elements and good for its length, a buffer that is written overlaps no other, and no other thread writes a buffer during a call.
+ * The library is for x86-64. Nothing is allocated or kept; the stack used stays below 256 KiB; calls from several threads are fine.
  * Running time depends on secrets in general: no promise is made about it.
  */
 #ifndef SAIGAGALENA_H
@@ -118,7 +118,7 @@ uint32_t saigagalena_encrypt_message_packed(uint32_t modulus, size_t n, uint32_t
 
 /* ---- opening */
 
-/* body - <mask, secret> modulo q. The phase, or a refusal by 2, 6, 9, 10, 13, 14. */
+/* body - <mask, secret> modulo q. The phase, or a refusal by 2, 6, 9, 10, 13, 14. In these calls `bound` is only judged: 0 will do. */
 uint64_t saigagalena_decrypt_phase(uint32_t modulus, size_t n, uint32_t bound, const uint32_t *secret, size_t secret_len,
                                    const uint32_t *ciphertext, size_t ciphertext_len);
 uint64_t saigagalena_decrypt_phase_signed(uint32_t modulus, size_t n, uint32_t bound, const int32_t *secret, size_t secret_len,
@@ -175,10 +175,10 @@ uint32_t saigagalena_add(uint32_t modulus, size_t n, uint32_t *x, size_t x_len, 
 uint64_t saigagalena_add_tally(uint64_t x, uint64_t y);
 
 /* 1 where 2 t * tally + t < q, so that the ciphertext is marked good; else 0; or a refusal by 2, 7, 8, 17. The mark counts one
- * rounding: where t does not divide q, so that encodings are rounded, a good sum of many messages may open one too high. */
+ * rounding: where t does not divide q, so that encodings are rounded, a good sum of many messages may open too high or too low. */
 uint64_t saigagalena_is_good(uint32_t modulus, uint32_t t, uint64_t tally);
 
-/* Body `index` of a packed ciphertext as a ciphertext of one message. Refuses by 2, 6, 10 (also where there is no such
+/* Body `index` of a packed ciphertext as a ciphertext of one message. No tally. Refuses by 2, 6, 10 (also where there is no such
  * body), 11, 14. */
 uint32_t saigagalena_extract(uint32_t modulus, size_t n, const uint32_t *input, size_t input_len, size_t index, uint32_t *out,
                              size_t out_len);

@@ -3,6 +3,11 @@
 // No program uses all of them.
 #![allow(dead_code)]
 
+/// An answer of 64 bits above this, other than `NO_TALLY`, is a refusal: this plus the refusal number.
+pub const REFUSED: u64 = 1 << 32;
+/// The tally of a public-key, packed or switched ciphertext: none.
+pub const NO_TALLY: u64 = u64::MAX;
+
 #[rustfmt::skip]
 unsafe extern "C" {
     pub fn saigagalena_basis(modulus: u32, base_log: u32, levels: u32, out: *mut u32, out_len: usize) -> u32;
