@@ -54,7 +54,7 @@ fn kind_unknown(kind: u32) -> bool
 }
 
 // Only ciphertexts of one message have tallies beside their words; nothing else is saved by this release.
-fn beside_unknown(kind: u32, beside: u32) -> bool
+fn beside_refused(kind: u32, beside: u32) -> bool
     ensures { λ r. ⌜ r ≡ besideFails kind beside ⌝ }
 {
     if kind == 5 {
@@ -88,7 +88,7 @@ pub fn file_refusal(bytes: &[u8]) -> u32
     let r = checks::refuse(0, bytes.len() < 64, 19);
     let r = checks::refuse(r, signature_unknown(bytes), 19);
     let r = checks::refuse(r, kind_unknown(h.kind), 19);
-    let r = checks::refuse(r, beside_unknown(h.kind, h.beside), 19);
+    let r = checks::refuse(r, beside_refused(h.kind, h.beside), 19);
     let r = checks::refuse(r, kept_used(bytes), 19);
     checks::refuse(r, size_differs(bytes.len(), h.words, h.count, h.beside), 19)
 }

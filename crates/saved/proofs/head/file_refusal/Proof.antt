@@ -21,7 +21,7 @@ returns c =
     ▹ (r1 .refuse .ensures, refl)
     ▹ (r2 .refuse2 .ensures, r2 .before .signature-unknown .ensures)
     ▹ (r3 .refuse3 .ensures, r3 .before .kind-unknown .ensures ∙ ap (λ h. kindFails (h .kind)) e)
-    ▹ (r4 .refuse4 .ensures, r4 .before .beside-unknown .ensures ∙ ap (λ h. besideFails (h .kind) (h .beside)) e)
+    ▹ (r4 .refuse4 .ensures, r4 .before .beside-refused .ensures ∙ ap (λ h. besideFails (h .kind) (h .beside)) e)
     ▹ (r5 .refuse5 .ensures, r5 .before .kept-used .ensures)
     ▹ (c .refuse6 .ensures, c .before .size-differs .ensures ∙ ap (λ h. sizeFails (length s) (h .words) (h .count) (h .beside)) e))
 
