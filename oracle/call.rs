@@ -1,8 +1,22 @@
 //! One call with all that it is given: what the C service is called with, and the Rust by its side.
 
-#[derive(Clone, Copy, PartialEq, Eq, PartialOrd, Ord, Debug, Default)]
-pub enum Kind {
-    #[default]
+/// The kinds, named once: the type and the list of them all.
+macro_rules! kinds {
+    ($first:ident, $($kind:ident),+ $(,)?) => {
+        #[derive(Clone, Copy, PartialEq, Eq, PartialOrd, Ord, Debug, Default)]
+        pub enum Kind {
+            #[default]
+            $first,
+            $($kind),+
+        }
+
+        impl Kind {
+            pub const ALL: &'static [Kind] = &[Kind::$first, $(Kind::$kind),+];
+        }
+    };
+}
+
+kinds! {
     Basis,
     Reading,
     DigitsSingle,
@@ -40,41 +54,6 @@ pub enum Kind {
 use Kind::*;
 
 impl Kind {
-    pub const ALL: [Kind; 32] = [
-        Basis,
-        Reading,
-        DigitsSingle,
-        Digits,
-        Encode,
-        Decode,
-        EncodeSlice,
-        DecodeSlice,
-        EncryptEncoded,
-        EncryptEncodedSigned,
-        EncryptMessage,
-        EncryptMessageSigned,
-        EncryptMessageBatch,
-        PackEncoded,
-        PackMessage,
-        Phase,
-        PhaseSigned,
-        Message,
-        MessageSigned,
-        PhaseBatch,
-        MessageBatch,
-        PhasePacked,
-        MessagePacked,
-        PublicKey,
-        PublicKeySigned,
-        PublicEncoded,
-        PublicMessage,
-        Extract,
-        Generate,
-        GenerateSigned,
-        Switch,
-        SwitchBatch,
-    ];
-
     /// Base log and levels.
     pub fn has_basis(self) -> bool {
         matches!(self, Basis | Reading | DigitsSingle | Digits) || self.is_switching()

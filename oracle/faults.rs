@@ -38,8 +38,8 @@ use Kind::*;
 
 #[rustfmt::skip]
 const FAULTS: [Fault; 12] = [
-    said("the lowest bit of the last word", &Kind::ALL, flip),
-    said("a word missing", &Kind::ALL, |words| words.truncate(words.len().saturating_sub(1))),
+    said("the lowest bit of the last word", Kind::ALL, flip),
+    said("a word missing", Kind::ALL, |words| words.truncate(words.len().saturating_sub(1))),
     said("the words of a ciphertext turned round", &[EncryptEncoded, SwitchBatch], |words| words.reverse()),
     said("a digit one higher", &[Digits], |words| if let Some(word) = words.first_mut() { *word = word.wrapping_add(1) }),
     given("one level fewer", &[Digits, Generate], |call| call.levels = call.level_count().saturating_sub(1).max(1) as u32),
@@ -97,7 +97,7 @@ fn answer_differs(fault: &Fault, draw: &mut Draw) -> bool {
 
 /// The last of the checks that apply taken for the first: 01's order upset.
 fn order_differs(draw: &mut Draw) -> bool {
-    let kind = draw.choose(&Kind::ALL);
+    let kind = draw.choose(Kind::ALL);
     let call = refused(draw, kind);
     let mut checks = checks::applying(&call);
     checks.reverse();
@@ -109,7 +109,7 @@ fn order_differs(draw: &mut Draw) -> bool {
 
 /// A Rust that accepts what it refuses.
 fn acceptance_differs(draw: &mut Draw) -> bool {
-    let kind = draw.choose(&Kind::ALL);
+    let kind = draw.choose(Kind::ALL);
     let call = refused(draw, kind);
     let checks = checks::applying(&call);
     let accepting = |_: &Call| Said::Words(vec![]);

@@ -20,7 +20,7 @@ use supplied::call::Kind;
 fn random(report: &mut Report, seed: u64, calls: u64) {
     let mut draw = Draw(seed);
     for _ in 0..calls {
-        let kind = draw.choose(&Kind::ALL);
+        let kind = draw.choose(Kind::ALL);
         let call = if draw.one_in(3) {
             damage::refused(&mut draw, kind)
         } else {

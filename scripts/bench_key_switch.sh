@@ -4,15 +4,9 @@
 # x86-64 machine, and takes one to three minutes after the library is built.
 #   scripts/bench_key_switch.sh [ARCHIVE]      an archive built already, in place of rt staticlib
 set -eu
-archive=${1:-}
-case $archive in '' | /*) ;; *) archive=$PWD/$archive ;; esac
-cd "$(dirname "$0")/.."
-room=$(mktemp -d)
-trap 'rm -rf "$room"' EXIT
-if [ -z "$archive" ]; then
-    rt staticlib saigagalena >"$room/log" 2>&1 || { cat "$room/log"; exit 1; }
-    archive=target/staticlib/libsaigagalena.a
-fi
+ARCHIVE=${1:-}
+# shellcheck source=scripts/archive.sh
+. "$(dirname "$0")/archive.sh"
 cp "$archive" "$room/libsaigagalena.a"
 rustc --edition 2024 -C opt-level=3 -L native="$room" -l static=saigagalena bench/key_switch.rs -o "$room/key_switch"
 "$room/key_switch"

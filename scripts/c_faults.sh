@@ -2,17 +2,9 @@
 # Shows that the C tests can fail: plants one fault at a time in a copy of the model and expects both the test of refusals
 # and the fuzzing to see the difference from the library. Takes the archive that ARCHIVE names, or builds it.
 set -eu
-# A relative path starts where the caller stands.
-archive=${ARCHIVE:-}
-case $archive in '' | /*) ;; *) archive=$PWD/$archive ;; esac
-cd "$(dirname "$0")/.."
+# shellcheck source=scripts/archive.sh
+. "$(dirname "$0")/archive.sh"
 cc=${CC:-cc}
-room=$(mktemp -d)
-trap 'rm -rf "$room"' EXIT
-if [ -z "$archive" ]; then
-    rt staticlib saigagalena >"$room/log" 2>&1 || { cat "$room/log"; exit 1; }
-    archive=target/staticlib/libsaigagalena.a
-fi
 missed=0
 
 # plant WHAT FILE SED-COMMAND

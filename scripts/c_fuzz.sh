@@ -4,18 +4,10 @@
 # so many seconds, whichever comes first. Takes the archive that ARCHIVE names, or builds it with `rt staticlib`.
 # SANITIZE=1 compiles the C side with sanitizers. No part of the gate: it wants a C compiler (CC, default cc) on x86-64.
 set -eu
-# A relative path starts where the caller stands.
-archive=${ARCHIVE:-}
-case $archive in '' | /*) ;; *) archive=$PWD/$archive ;; esac
-cd "$(dirname "$0")/.."
+# shellcheck source=scripts/archive.sh
+. "$(dirname "$0")/archive.sh"
 cc=${CC:-cc}
-room=$(mktemp -d)
-trap 'rm -rf "$room"' EXIT
 
-if [ -z "$archive" ]; then
-    rt staticlib saigagalena >"$room/log" 2>&1 || { cat "$room/log"; exit 1; }
-    archive=target/staticlib/libsaigagalena.a
-fi
 flags="-O2"
 if [ -n "${SANITIZE:-}" ]; then
     flags="-O1 -g -fsanitize=address,undefined -fno-sanitize-recover=all"

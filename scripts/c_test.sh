@@ -4,22 +4,13 @@
 # them. No part of the gate: it wants a C compiler on x86-64 (CC, default cc; CXX, default c++, is left out where there
 # is none; so are the sanitizers, and rustc for the example in Rust).
 set -eu
-# A relative path starts where the caller stands.
-archive=${ARCHIVE:-}
-case $archive in '' | /*) ;; *) archive=$PWD/$archive ;; esac
-cd "$(dirname "$0")/.."
+# shellcheck source=scripts/archive.sh
+. "$(dirname "$0")/archive.sh"
 cc=${CC:-cc}
 cxx=${CXX:-c++}
-room=$(mktemp -d)
-trap 'rm -rf "$room"' EXIT
 strict="-Wall -Wextra -Wpedantic -Werror -Iinclude"
 harness="tests/c/compare.c tests/c/place.c tests/c/draw.c tests/c/damage.c tests/c/library.c"
 model="tests/c/model.c tests/c/lengths.c tests/c/results.c"
-
-if [ -z "$archive" ]; then
-    rt staticlib saigagalena >"$room/log" 2>&1 || { cat "$room/log"; exit 1; }
-    archive=target/staticlib/libsaigagalena.a
-fi
 
 echo '#include "saigagalena.h"' >"$room/header.c"
 cp "$room/header.c" "$room/header.cpp"

@@ -3,19 +3,12 @@
 # stored ones. No part of the gate: it wants a C compiler (CC, default cc) on x86-64.
 # ARCHIVE names another archive than the one that is built here, INCLUDE another folder of its header.
 set -eu
-# Relative paths start where the caller stands.
-archive=${ARCHIVE:-}
-case $archive in '' | /*) ;; *) archive=$PWD/$archive ;; esac
+# A relative path starts where the caller stands.
 include=${INCLUDE:-}
 case $include in '' | /*) ;; *) include=$PWD/$include ;; esac
-cd "$(dirname "$0")/.."
+# shellcheck source=scripts/archive.sh
+. "$(dirname "$0")/archive.sh"
 cc=${CC:-cc}
-room=$(mktemp -d)
-trap 'rm -rf "$room"' EXIT
-if [ -z "$archive" ]; then
-    rt staticlib saigagalena >"$room/log" 2>&1 || { cat "$room/log"; exit 1; }
-    archive=target/staticlib/libsaigagalena.a
-fi
 "$cc" -std=c11 -Wall -Wextra -Wpedantic -Werror -O2 -I"${include:-include}" scripts/release_files.c "$archive" -o "$room/release_files"
 for setting in native prime power box; do mkdir -p "$room/files/$setting"; done
 "$room/release_files" "$room/files"
