@@ -1,11 +1,22 @@
 // Checks that several calls share, each exact for every input, and the chain that keeps the first number.
 ghost use mathlib.Core.Path.{_≡_};
+ghost use mathlib.Core.Bool.{_||_};
 ghost use Prim.Native.Nat.{_+_, _*_, _/_};
 ghost use Rattle.scheme.specs.Checks.{modulusFails, plaintextFails, smallFails, lengthFails, batchFails, boundFails, wordFails, wordsFail, magnitudesFail, signedFail, errorsFail, coefficientsFail, messageFails, messagesFail};
 ghost use Rattle.primus_reduce.specs.Ring.{meant, sizeOf};
 ghost use Rattle.checks.specs.Refuse.{Next};
+mod judged;
+
+pub use judged::Sizes;
+pub use judged::Values;
 use primus_reduce::Modulus;
 use primus_reduce::magnitude;
+
+// A word, or the first number that applies.
+pub enum WordAnswer {
+    Word(u32),
+    Refused(u32),
+}
 
 // The refusal r so far, or `number` where there is none yet and this check fails.
 pub fn refuse(r: u32, fails: bool, number: u32) -> u32
@@ -51,6 +62,13 @@ pub fn length_differs(len: usize, n: usize) -> bool
     ensures { λ r. ⌜ r ≡ lengthFails len n ⌝ }
 {
     len != n
+}
+
+// 12: two lengths, each for its own n.
+pub fn lengths_differ(len: usize, n: usize, second: usize, m: usize) -> bool
+    ensures { λ r. ⌜ r ≡ (lengthFails second m || lengthFails len n) ⌝ }
+{
+    (second != m) | (len != n)
 }
 
 // 10, 11: `len` is not n mask words and a body. No sum: it could overflow.
@@ -114,6 +132,13 @@ pub fn words_refused(q: Modulus, s: &[u32]) -> bool
         Modulus::Native => false,
         Modulus::Explicit(q) => any_refused(s, q),
     }
+}
+
+// 14, two runs.
+pub fn both_refused(q: Modulus, s: &[u32], t: &[u32]) -> bool
+    ensures { λ r. ⌜ r ≡ (wordsFail (sizeOf q) (now (t .entry)) || wordsFail (sizeOf q) (now (s .entry))) ⌝ }
+{
+    words_refused(q, t) | words_refused(q, s)
 }
 
 // Whether some |c| is not below the limit; no early exit, as for words.

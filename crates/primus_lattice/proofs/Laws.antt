@@ -13,13 +13,14 @@ use borrow.Author.Tests.{ltb-true, ltb-false, leb-false, lt-ltb, le-ltb, le-leb,
 use Rattle.scheme.specs.Numbers.{pick, residue}
 use Rattle.scheme.specs.Modulus as S
 use Rattle.scheme.specs.Tally.{addTally, tallyFails}
-use Rattle.scheme.specs.Checks.{firstOf}
+use Rattle.scheme.specs.Checks.{firstOf, refusal, lengthFails}
 use Rattle.scheme.proofs.Checks.{passed, modulus-ok, length-ok}
+use Rattle.scheme.proofs.Order.{passed as passing, neither}
 use Rattle.primus_reduce.specs.Ring.{meant, sizeOf, modulo}
 use Rattle.primus_reduce.specs.declared.modulus.Modulus.{Modulus}
 use Rattle.primus_lattice.specs.declared.tag.Tally.{Tally}
 use Rattle.primus_lattice.specs.declared.tag.Tally.the-variants.{Absent, Present}
-use Rattle.primus_lattice.specs.Answers.{meantTally, heldTally, cap, bodyFails, extractRows}
+use Rattle.primus_lattice.specs.Answers.{meantTally, heldTally, cap, bodyFails, addRows, extractRows}
 
 pub picked : {A : Type 0} (b : Bool) (x y : A) → b ≡ true → x ≡ pick b x y
 picked b x y e = rw e
@@ -85,6 +86,14 @@ add-is q a b r h f = f ∙ rw (ne-eqb q 0 (λ z. omega arith)) refl
 
 pub less-is : (q a r : ℕ) → 0 < q → r ≡ modulo q (pos 0 -ℤ pos a) → r ≡ residue (negℤ (pos a)) q
 less-is q a r h f = f ∙ rw (ne-eqb q 0 (λ z. omega arith)) (ap (λ z. residue z q) (+ℤ-idl (negℤ (pos a))))
+
+-- ---- what the checks of a sum leave
+
+pub addable : (m : Modulus) (n : ℕ) (x y : List ℕ) → refusal (addRows m n x y) ≡ 0 → (0 < sizeOf m) × (length x ≡ length y)
+addable m n x y e =
+    let no = passing (addRows m n x y) e in
+    let lengths = neither (lengthFails (length x) (n + 1)) (lengthFails (length y) (n + 1)) (no 10 tt) in
+    (omega (arith, modulus-ok 32 (meant m) (omega arith) (no 2 tt)), length-ok _ _ (lengths .0) ∙ sym (length-ok _ _ (lengths .1)))
 
 -- ---- what the checks of a sample leave
 

@@ -6,9 +6,11 @@ use lib.Dec.{eqb, leb}
 use lib.ListN.{length}
 use Rattle.scheme.specs.Numbers.{pick}
 use Rattle.scheme.specs.Tally as S
-use Rattle.scheme.specs.Checks.{Check, row, firstOf, modulusFails, dimensionFails, codecRows, lengthFails, packedFails, wordsFail}
+use Rattle.scheme.specs.Lwe.{addWords}
+use Rattle.scheme.specs.Checks.{Writes, refusal, Check, row, firstOf, modulusFails, dimensionFails, codecRows, lengthFails, packedFails, wordsFail}
 use Rattle.primus_reduce.specs.Ring.{meant, sizeOf}
 use Rattle.primus_reduce.specs.declared.modulus.Modulus.{Modulus}
+use Rattle.primus_lattice.specs.declared.dimension.LweDimension.{LweDimension}
 use Rattle.primus_lattice.specs.declared.dimension.LweDimensionAnswer.{LweDimensionAnswer}
 use Rattle.primus_lattice.specs.declared.dimension.LweDimensionAnswer.the-variants as D
 use Rattle.primus_lattice.specs.declared.tag.Tally.{Tally}
@@ -75,6 +77,10 @@ addRows m n xs ys =
     ∷ row (wordsFail (sizeOf m) xs) 14
     ∷ row (wordsFail (sizeOf m) ys) 14
     ∷ []
+
+-- "Adding two ciphertexts adds their words modulo q"
+pub record Adds (m : Modulus) (n : LweDimension) (x y : List ℕ) (r : ℕ) (after : List ℕ) : Type 0 where
+  pub writes : Writes (addRows m (n .0) x y) (addWords (sizeOf m) x y) x r after
 
 -- 10: a packed input of `len` words, n of them mask words, has no body i
 abbrev pub bodyFails : ℕ → ℕ → ℕ → Bool

@@ -4,11 +4,12 @@ ghost use mathlib.Core.List.{zipWith};
 ghost use Prim.Native.Nat.{_<_};
 ghost use lib.ListN.{length};
 ghost use Rattle.scheme.specs.Lwe.{addWords};
-ghost use Rattle.scheme.specs.Checks.{firstOf, Answers};
+ghost use Rattle.scheme.specs.Checks.{refusal};
 ghost use Rattle.primus_reduce.specs.Ring.{sizeOf};
-ghost use Rattle.primus_lattice.specs.Answers.{addRows};
+ghost use Rattle.primus_lattice.specs.Answers.{addRows, Adds};
 use crate::dimension::LweDimension;
-use crate::dimension::dimension_refused;
+use checks::Sizes;
+use checks::Values;
 use primus_reduce::Modulus;
 
 fn add_words(x: &mut [u32], y: &[u32], modulus: Modulus)
@@ -22,17 +23,27 @@ fn add_words(x: &mut [u32], y: &[u32], modulus: Modulus)
     }
 }
 
+fn add_refusal(modulus: Modulus, dimension: LweDimension, x: &[u32], y: &[u32]) -> u32
+    ensures { λ r. ⌜ r ≡ refusal (addRows modulus (dimension .0) (now (x .entry)) (now (y .entry))) ⌝ }
+{
+    let mut s = Sizes::NONE;
+    s.modulus = checks::modulus_refused(modulus);
+    s.dimension = dimension.refused();
+    s.input = dimension.ciphertexts_differ(x.len(), y.len());
+    let r = s.first();
+    if r != 0 {
+        return r;
+    }
+    let mut v = Values::NONE;
+    v.word = checks::both_refused(modulus, x, y);
+    v.first()
+}
+
 // x + y modulo q, word by word, in x. Refuses by 2, 6, 10, 14.
 pub fn add_assign(modulus: Modulus, dimension: LweDimension, x: &mut [u32], y: &[u32]) -> u32
-    ensures { λ r. ⌜ Answers (firstOf (addRows modulus (dimension .0) (now (x .entry)) (now (y .entry)))) (addWords (sizeOf modulus) (now (x .entry)) (now (y .entry))) (now (x .entry)) r (now (x .exit)) ⌝ }
+    ensures { λ r. ⌜ Adds modulus dimension (now (x .entry)) (now (y .entry)) r (now (x .exit)) ⌝ }
 {
-    let n = dimension.get();
-    let r = checks::refuse(0, checks::modulus_refused(modulus), 2);
-    let r = checks::refuse(r, dimension_refused(n), 6);
-    let r = checks::refuse(r, checks::ciphertext_differs(x.len(), n), 10);
-    let r = checks::refuse(r, checks::ciphertext_differs(y.len(), n), 10);
-    let r = checks::refuse(r, checks::words_refused(modulus, x), 14);
-    let r = checks::refuse(r, checks::words_refused(modulus, y), 14);
+    let r = add_refusal(modulus, dimension, x, y);
     if r != 0 {
         return r;
     }

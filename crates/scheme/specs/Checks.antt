@@ -1,7 +1,7 @@
 -- "Checks, in order": each condition by its number, and the first number that applies.
 use mathlib.Core.Path.{_≡_}
 use mathlib.Core.Bool.{Bool, true, false, not, _||_, _&&_}
-use mathlib.Core.List.{List, [], _∷_}
+use mathlib.Core.List.{List, [], _∷_, _++_}
 use Prim.Native.Nat.{ℕ, zero, suc, _+_, _*_, _/_, _%_, _^_}
 use lib.Dec.{leb, ltb, eqb}
 use lib.IntN.{ℤ, natAbs}
@@ -17,6 +17,30 @@ pub record Check : Type 0 where
 
 abbrev pub row : Bool → ℕ → Check
 row b k = record { fails = b; number = k }
+
+-- "Checks, in order": the order in which numbers are judged, stated here and nowhere else. First come numbers and lengths, judged
+-- before a word of a lent buffer is read; then what is read there.
+abbrev pub sizes : List ℕ
+sizes = 1 ∷ 2 ∷ 3 ∷ 4 ∷ 5 ∷ 6 ∷ 7 ∷ 8 ∷ 9 ∷ 10 ∷ 11 ∷ 12 ∷ 13 ∷ []
+
+abbrev pub values : List ℕ
+values = 14 ∷ 15 ∷ 16 ∷ 17 ∷ []
+
+abbrev pub order : List ℕ
+order = sizes ++ values
+
+-- a call's checks are rows in any order: number k applies where a row of that number fails
+abbrev pub applies : List Check → ℕ → Bool
+applies [] k = false
+applies (c ∷ cs) k = pick (eqb (c .number) k) (applies cs k || c .fails) (applies cs k)
+
+unfoldable pub firstIn : (ℕ → Bool) → List ℕ → ℕ
+firstIn f [] = 0
+firstIn f (k ∷ ks) = pick (f k) k (firstIn f ks)
+
+-- "the first refusal number that applies, in the order of document 01", or 0
+unfoldable pub refusal : List Check → ℕ
+refusal rows = firstIn (applies rows) order
 
 -- the number of the first check that fails, or 0
 unfoldable pub firstOf : List Check → ℕ
@@ -138,3 +162,9 @@ messagesFail t xs = wordsFail t xs
 pub record Answers {A : Type 0} (refusal : ℕ) (result before : List A) (r : ℕ) (after : List A) : Type 0 where
   pub number : r ≡ refusal
   pub written : after ≡ pick (eqb refusal 0) result before
+
+-- A call with these rows answers r, and a lent buffer that held `before` holds `after`: where no number applies r is 0 and the buffer
+-- holds the result; else r is the first number, and the buffer holds what it held.
+pub record Writes {A : Type 0} (rows : List Check) (result before : List A) (r : ℕ) (after : List A) : Type 0 where
+  pub answered : r ≡ refusal rows
+  pub holds : after ≡ pick (eqb (refusal rows) 0) result before
