@@ -8,6 +8,7 @@ use lib.IntN.{ℤ, natAbs}
 use lib.ListN.{length}
 use Rattle.scheme.specs.Numbers.{pick}
 use Rattle.scheme.specs.Modulus.{Modulus, Native, Explicit, size, bits}
+use Rattle.scheme.specs.Lwe.{Key, Words, Signed}
 use Rattle.scheme.specs.Basis.{Levels, levelsOf, fullCount}
 
 -- whether a condition holds, and its number
@@ -142,6 +143,10 @@ magnitudesFail limit xs = not (allOf (λ c. ltb (natAbs c) limit) xs)
 -- "14. … or a signed key number has |c| ≥ q."
 abbrev pub signedFail : ℕ → List ℤ → Bool
 signedFail q xs = magnitudesFail q xs
+
+abbrev pub keyFails : ℕ → Key → Bool
+keyFails q (Words s) = wordsFail q s
+keyFails q (Signed s) = signedFail q s
 
 -- "15. An error is outside ±E, or a coefficient is none of −1, 0, 1."
 abbrev pub errorsFail : ℕ → List ℤ → Bool
