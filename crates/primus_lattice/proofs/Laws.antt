@@ -1,6 +1,6 @@
 -- Laws of the leaves and of the calls.
 -- Assumes nothing.
-use mathlib.Core.Path.{_≡_, refl, sym, ap, _∙_}
+use mathlib.Core.Path.{_≡_, refl, sym, ap, subst, _∙_}
 use mathlib.Core.Bool.{Bool, true, false, _||_}
 use mathlib.Core.List.{List}
 use Prim.Native.Nat.{ℕ, zero, suc, _+_, _-_, _*_, _%_, _^_, _≤_, _<_}
@@ -20,7 +20,8 @@ use Rattle.primus_reduce.specs.Ring.{meant, sizeOf, modulo}
 use Rattle.primus_reduce.specs.declared.modulus.Modulus.{Modulus}
 use Rattle.primus_lattice.specs.declared.tag.Tally.{Tally}
 use Rattle.primus_lattice.specs.declared.tag.Tally.the-variants.{Absent, Present}
-use Rattle.primus_lattice.specs.Answers.{meantTally, heldTally, cap, bodyFails, addRows, extractRows}
+use Rattle.primus_lattice.specs.Answers.{meantTally, heldTally, cap, bodyFails, addRows, Adds, extractRows}
+use Rattle.primus_lattice.specs.declared.dimension.LweDimension.{LweDimension}
 
 pub picked : {A : Type 0} (b : Bool) (x y : A) → b ≡ true → x ≡ pick b x y
 picked b x y e = rw e
@@ -94,6 +95,11 @@ addable m n x y e =
     let no = passing (addRows m n x y) e in
     let lengths = neither (lengthFails (length x) (n + 1)) (lengthFails (length y) (n + 1)) (no 10 tt) in
     (omega (arith, modulus-ok 32 (meant m) (omega arith) (no 2 tt)), length-ok _ _ (lengths .0) ∙ sym (length-ok _ _ (lengths .1)))
+
+-- the promise of a sum, of other names of its modulus and dimension
+pub adds-of : {m k : Modulus} → m ≡ k → {n o : LweDimension} → n ≡ o → {x y after : List ℕ} {r : ℕ} → Adds m n x y r after → Adds k o x y r after
+adds-of {m} {k} em {n} {o} en {x} {y} {after} {r} h =
+    subst (λ (z : LweDimension). Adds k z x y r after) en (subst (λ (z : Modulus). Adds z n x y r after) em h)
 
 -- ---- what the checks of a sample leave
 

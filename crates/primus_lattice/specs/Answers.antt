@@ -24,6 +24,10 @@ use Rattle.primus_lattice.specs.declared.tag.MarkAnswer.the-variants as 
 abbrev pub dimensionAnswer : ℕ → LweDimensionAnswer
 dimensionAnswer n = pick (dimensionFails n) (D.Refused 6) (D.Accepted (record { 0 = n }))
 
+-- a dimension of any number
+abbrev pub given : ℕ → LweDimension
+given n = record { 0 = n }
+
 -- the tally of document 01, and the value that holds one
 abbrev pub meantTally : Tally → S.Tally
 meantTally Absent = S.Absent
