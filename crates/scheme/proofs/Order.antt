@@ -7,13 +7,18 @@
 use mathlib.Core.Path.{_≡_, refl, sym, ap, _∙_}
 use mathlib.Core.Bool.{Bool, true, false, not, _||_, _&&_}
 use mathlib.Core.List.{List, [], _∷_, _++_}
-use Prim.Native.Nat.{ℕ}
+use Prim.Native.Nat.{ℕ, _+_}
 use native.Mathlib.Omega.{arith}
 use lib.Dec.{T, eqb}
 use mir.Facts.{and-yes, eqb-no}
 use borrow.Author.Tests.{eqb-true, eq-eqb, ne-eqb}
-use Rattle.scheme.specs.Numbers.{pick}
+use Rattle.scheme.specs.Numbers.{pick, tabulate}
 use Rattle.scheme.specs.Checks.{Check, sizes, values, order, applies, firstIn, refusal, Writes}
+
+-- document 01 numbers its checks in the order in which they are judged
+pub numbered : order ≡ tabulate 17 (λ i. i + 1)
+unfolding tabulate
+numbered = refl
 
 -- no number of a list is 0
 abbrev pub positive : List ℕ → Bool
