@@ -23,9 +23,9 @@ use Rattle.scheme.proofs.Modulus.{size-most}
 use Rattle.scheme.proofs.Walk.{walk-digits, carry-in-most}
 use Rattle.primus_reduce.specs.Ring.{meant, sizeOf}
 use Rattle.primus_decompose.specs.declared.primitive.common.SignedDecomposer.{SignedDecomposer}
-use Rattle.primus_decompose.specs.declared.primitive.params.PreparedBasis.{PreparedBasis}
+use Rattle.primus_decompose.specs.declared.primitive.prepared.PreparedBasis.{PreparedBasis}
 use Rattle.primus_decompose.specs.Step.{windowOf, stepOf}
-use Rattle.primus_decompose.specs.Params.{Ready, basisIn, firstCarry, decomposerOf}
+use Rattle.primus_decompose.specs.Prepared.{Ready, basisIn, firstCarry, decomposerOf}
 use Rattle.primus_decompose.specs.Column.{after, stepDigit, Column, Words}
 
 -- ---- one column

@@ -18,11 +18,6 @@ pub enum ApproxSignedBasisAnswer {
     Refused(u32),
 }
 
-pub enum WordAnswer {
-    Word(u32),
-    Refused(u32),
-}
-
 pub enum ValueCarryAnswer {
     Ready(ValueCarry),
     Refused(u32),

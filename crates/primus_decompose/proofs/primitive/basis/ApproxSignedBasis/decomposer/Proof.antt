@@ -3,7 +3,7 @@ use Prim.Native.Nat.{ℕ, _<_}
 use borrow.Author.Needs.{needs}
 use Rattle.primus_reduce.specs.Ring.{sizeOf}
 use Rattle.primus_decompose.specs.declared.error.DecomposerAnswer.the-variants.{Ready}
-use Rattle.primus_decompose.specs.Params.{decomposerOf}
+use Rattle.primus_decompose.specs.Prepared.{decomposerOf}
 use Rattle.primus_decompose.proofs.Answers.{word-passed, answer-refused, answered}
 use Rattle.primus_decompose.proofs.primitive.basis.ApproxSignedBasis.decomposer.Statement.{statement}
 use Rattle.primus_decompose.proofs.primitive.basis.ApproxSignedBasis.decomposer.Tie as tie

@@ -1,7 +1,7 @@
 use mathlib.Core.Path.{ap, ap₂, sym, _∙_}
 use borrow.Author.Needs.{needs}
 use Rattle.primus_decompose.specs.declared.error.PreparedBasisAnswer.the-variants.{Ready}
-use Rattle.primus_decompose.specs.Params.{preparedOf}
+use Rattle.primus_decompose.specs.Prepared.{preparedOf}
 use Rattle.primus_decompose.proofs.Answers.{answer-refused, answered}
 use Rattle.primus_decompose.proofs.Constants.{prepared-is}
 use Rattle.primus_decompose.proofs.primitive.basis.ApproxSignedBasis.prepare.Statement.{statement}

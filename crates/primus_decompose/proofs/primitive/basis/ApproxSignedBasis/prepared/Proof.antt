@@ -1,7 +1,7 @@
 use mathlib.Core.Path.{ap₂, ap, sym, _∙_}
 use Rattle.scheme.specs.Checks.{basisRefusal}
 use Rattle.primus_reduce.specs.Ring.{meant}
-use Rattle.primus_decompose.specs.Params.{basisBy}
+use Rattle.primus_decompose.specs.Prepared.{basisBy}
 use borrow.Author.Needs.{needs}
 use Rattle.primus_decompose.proofs.primitive.basis.ApproxSignedBasis.prepared.Statement.{statement}
 use Rattle.primus_decompose.proofs.primitive.basis.ApproxSignedBasis.prepared.Tie as tie
