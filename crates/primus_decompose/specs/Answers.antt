@@ -10,7 +10,8 @@ use Rattle.scheme.specs.Modulus as S
 use Rattle.scheme.specs.Basis as B
 use Rattle.scheme.specs.Reading as R
 use Rattle.scheme.specs.Digits.{digitsOf, runsOf}
-use Rattle.scheme.specs.Checks.{Check, row, refusal, Writes, baseLogFails, basisRows, lengthFails, wordFails, wordsFail}
+use Rattle.scheme.specs.Checks.{Check, row, refusal, Writes, basisRows}
+use Rattle.scheme.specs.Checks.{baseLogFails, lengthFails, wordFails, wordsFail}
 use Rattle.primus_reduce.specs.Ring.{meant, sizeOf}
 use Rattle.primus_reduce.specs.declared.modulus.Modulus.{Modulus}
 use Rattle.checks.specs.declared.WordAnswer.{WordAnswer}

@@ -67,13 +67,6 @@ impl DecompositionLevelCount {
         self.0
     }
 
-    // 11: `len` is not L.
-    pub(crate) fn differs(self, len: usize) -> bool
-        ensures { λ r. ⌜ r ≡ lengthFails len (self .0) ⌝ }
-    {
-        len != self.0
-    }
-
     // 11: `len` is not L runs of `width`.
     pub(crate) fn runs_differ(self, len: usize, width: usize) -> bool
         ensures { λ r. ⌜ r ≡ lengthFails len (self .0 * width) ⌝ }

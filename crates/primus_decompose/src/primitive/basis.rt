@@ -7,7 +7,10 @@ ghost use Rattle.scheme.specs.Basis.{bound, dropped};
 ghost use Rattle.scheme.specs.Checks.{refusal};
 ghost use Rattle.primus_reduce.specs.Ring.{meant, powerOfTwo};
 ghost use Rattle.checks.specs.Judged.{JudgesSizes};
-ghost use Rattle.primus_decompose.specs.Answers.{levelCount, levelsFor, basisFrom, basisWith, basisAnswer, basis, rows, baseWord, thresholdAnswer, wordRows, initAnswer, decomposerAnswer, weightWord, scalarAt, preparedBy, preparedAnswer, WhereReady};
+ghost use Rattle.primus_decompose.specs.Answers.{levelCount, basisFrom, basisWith, basisAnswer, basis, rows};
+ghost use Rattle.primus_decompose.specs.Answers.{baseWord, weightWord, scalarAt, thresholdAnswer, preparedBy};
+ghost use Rattle.primus_decompose.specs.Answers.{preparedAnswer, WhereReady, wordRows, initAnswer, decomposerAnswer};
+ghost use Rattle.primus_decompose.specs.Answers.{sliceRows};
 ghost use Rattle.primus_decompose.specs.Prepared.{Ready};
 use crate::error::ApproxSignedBasisAnswer;
 use crate::error::DecomposerAnswer;
@@ -70,11 +73,15 @@ impl ApproxSignedBasis {
         ApproxSignedBasisAnswer::Accepted(b)
     }
 
-    // The basis of plain numbers, any numbers, as a caller gives them; levels 0 are left open. The calls judge them by 1 to 5.
+    // Any numbers, as a caller gives them, levels 0 left open: the calls judge them by 1 to 5.
     pub fn given(modulus: Modulus, base_log: u32, levels: u32) -> ApproxSignedBasis
         ensures { λ r. ⌜ r ≡ basisWith modulus «base_log» levels ⌝ }
     {
-        ApproxSignedBasis::of(modulus, DecompositionBaseLog::given(base_log), numbers::levels_for(levels))
+        ApproxSignedBasis::of(
+            modulus,
+            DecompositionBaseLog::given(base_log),
+            numbers::levels_for(levels),
+        )
     }
 
     fn of(
@@ -235,6 +242,23 @@ impl ApproxSignedBasis {
         let modulus = self.modulus;
         let mut v = Values::NONE;
         v.word = checks::word_refused(modulus, value);
+        v.first()
+    }
+
+    // 1 to 5, 11, 14
+    pub(crate) fn slice_refusal(self, values: &[u32], room: usize) -> u32
+        ensures { λ r. ⌜ r ≡ refusal (sliceRows self (now (values .entry)) room) ⌝ }
+    {
+        let levels = self.level_count;
+        let mut s = self.sizes();
+        s.output = levels.runs_differ(room, values.len());
+        let r = s.first();
+        if r != 0 {
+            return r;
+        }
+        let modulus = self.modulus;
+        let mut v = Values::NONE;
+        v.word = checks::words_refused(modulus, values);
         v.first()
     }
 

@@ -1,4 +1,4 @@
-// The checks of a basis, its constants, and where the walk of a word begins.
+// What judges a basis, its constants, and where the walk of a word begins.
 ghost use mathlib.Core.Path.{_≡_};
 ghost use Prim.Native.Nat.{_+_, _*_, _-_, _/_, _%_, _^_, _<_, _≤_, max};
 ghost use lib.Dec.{ltb, eqb};
@@ -9,7 +9,8 @@ ghost use Rattle.scheme.specs.Walk.{carryIn};
 ghost use Rattle.scheme.specs.Checks.{refusal, baseFails, fullFails, levelsFail, basisRows};
 ghost use Rattle.primus_reduce.specs.Ring.{meant, sizeOf};
 ghost use Rattle.checks.specs.Judged.{JudgesSizes};
-ghost use Rattle.primus_decompose.specs.Prepared.{Narrow, wrapAt, Ready, basisIn, preparedOf, adjustBy, initOf, decomposerOf, decomposerFrom};
+ghost use Rattle.primus_decompose.specs.Prepared.{Narrow, wrapAt, Ready, basisIn, preparedOf};
+ghost use Rattle.primus_decompose.specs.Prepared.{adjustBy, initOf, decomposerOf, decomposerFrom};
 use crate::parameters;
 use crate::primitive::basis::ValueCarry;
 use crate::primitive::common;

@@ -3,16 +3,14 @@ ghost use mathlib.Core.Path.{_≡_};
 ghost use Prim.Native.Nat.{_+_, _*_, _<_, _≤_};
 ghost use lib.ListN.{length};
 ghost use Rattle.scheme.specs.Digits.{runsOf};
-ghost use Rattle.scheme.specs.Checks.{refusal};
 ghost use Rattle.primus_reduce.specs.Ring.{sizeOf};
-ghost use Rattle.primus_decompose.specs.Answers.{digitRows, Decomposes, sliceRows, DecomposesSlice};
+ghost use Rattle.primus_decompose.specs.Answers.{Decomposes, DecomposesSlice};
 ghost use Rattle.primus_decompose.specs.Prepared.{Ready, basisIn};
 ghost use Rattle.primus_decompose.specs.Column.{Column, Words};
 use crate::primitive::basis::ApproxSignedBasis;
 use crate::primitive::common::SignedDecomposer;
 use crate::primitive::prepared;
 use crate::primitive::prepared::PreparedBasis;
-use checks::Values;
 
 // Writes the digits of one word at place i of each of the `levels` runs of `count` words.
 fn write_column(out: &mut [u32], start: SignedDecomposer, levels: usize, count: usize, i: usize)
@@ -31,7 +29,10 @@ fn write_column(out: &mut [u32], start: SignedDecomposer, levels: usize, count: 
 
 // Writes the digits of every word.
 fn write_columns(out: &mut [u32], values: &[u32], p: PreparedBasis)
-    requires { ⌜ Ready p × Words (sizeOf (p .modulus)) (now values) × (length (now out) ≡ p .«level_count» * length (now values)) ⌝ }
+    requires { ⌜
+        Ready p × Words (sizeOf (p .modulus)) (now values)
+        × (length (now out) ≡ p .«level_count» * length (now values))
+        ⌝ }
     ensures { λ _. ⌜ now (out .exit) ≡ runsOf (basisIn p) (now (values .entry)) ⌝ }
 {
     let levels = p.level_count;
@@ -48,14 +49,8 @@ impl ApproxSignedBasis {
     pub fn decompose(self, value: u32, digits: &mut [u32]) -> u32
         ensures { λ r. ⌜ Decomposes self value (now (digits .entry)) r (now (digits .exit)) ⌝ }
     {
-        let r = self.digit_refusal(value, digits.len());
-        if r != 0 {
-            return r;
-        }
-        let levels = self.level_count();
-        let d = prepared::decomposer(self.prepared(), value);
-        write_column(digits, d, levels.get(), 1, 0);
-        0
+        let values = [value];
+        self.decompose_slice_to(&values, digits)
     }
 
     // The digits of each word: L runs, lowest level first. Refuses by 1 to 5, 11, 14.
@@ -68,35 +63,5 @@ impl ApproxSignedBasis {
         }
         write_columns(digits, values, self.prepared());
         0
-    }
-
-    fn digit_refusal(self, value: u32, room: usize) -> u32
-        ensures { λ r. ⌜ r ≡ refusal (digitRows self value room) ⌝ }
-    {
-        let mut s = self.sizes();
-        let levels = self.level_count();
-        s.output = levels.differs(room);
-        let r = s.first();
-        if r != 0 {
-            return r;
-        }
-        let mut v = Values::NONE;
-        v.word = checks::word_refused(self.modulus(), value);
-        v.first()
-    }
-
-    fn slice_refusal(self, values: &[u32], room: usize) -> u32
-        ensures { λ r. ⌜ r ≡ refusal (sliceRows self (now (values .entry)) room) ⌝ }
-    {
-        let mut s = self.sizes();
-        let levels = self.level_count();
-        s.output = levels.runs_differ(room, values.len());
-        let r = s.first();
-        if r != 0 {
-            return r;
-        }
-        let mut v = Values::NONE;
-        v.word = checks::words_refused(self.modulus(), values);
-        v.first()
     }
 }

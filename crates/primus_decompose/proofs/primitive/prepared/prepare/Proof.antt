@@ -2,13 +2,14 @@ use mathlib.Core.Path.{_≡_, refl}
 use native.Mathlib.Omega.{arith}
 use borrow.Author.Needs.{needs}
 use Rattle.primus_reduce.specs.Ring.{meant}
-use Rattle.scheme.proofs.Checks.{Sound, accepted-basis}
-use Rattle.primus_decompose.proofs.Constants.{levels-most, room-of, product-fits, narrow-of, covered-of, base-of, add-fits, offset-fits, ready-of}
+use Rattle.scheme.proofs.Checks.{Sound}
+use Rattle.primus_decompose.proofs.Answers.{sound-basis}
+use Rattle.primus_decompose.proofs.Constants.{levels-most, room-of, product-fits, narrow-of, covered-of, base-of, add-fits, offset-fits, ready-of, prepared-is}
 use Rattle.primus_decompose.proofs.primitive.prepared.prepare.Statement.{statement}
 use Rattle.primus_decompose.proofs.primitive.prepared.prepare.Tie as tie
 
 sound : (c : tie.After-size) → let a = c .before .args in Sound 32 (meant (a .modulus)) (a .log) (a .levels)
-sound c = let a = c .before .args in accepted-basis 32 (meant (a .modulus)) (a .log) (a .levels) (c .size .ensures .1) (c .before .pre)
+sound c = let a = c .before .args in sound-basis (a .modulus) (a .log) (a .levels) (c .size .ensures .1) (c .before .pre)
 
 cast-count : tie.Need-cast-count
 cast-count c = let a = c .before .before .args in record { fits = omega (arith, levels-most (a .modulus) (a .log) (a .levels) (sound (c .before))) }
@@ -69,13 +70,11 @@ cast-t14 c =
 returns : tie.Need-returns
 returns c =
     let v = c .before .before .before in
-    let s = v .before .before in (
-      ready-of (s .args .modulus) (s .args .log) (s .args .levels) (sound (v .before)) _ _ (v .value-bits .ensures) (v .before .size .ensures .0) _ _ _
-          (c .before .before .wrap-threshold .ensures) (c .before .power .ensures) (c .power2 .ensures),
-      refl,
-      refl,
-      refl,
-    )
+    let s = v .before .before in
+    let ready =
+    ready-of (s .args .modulus) (s .args .log) (s .args .levels) (sound (v .before)) _ _ (v .value-bits .ensures) (v .before .size .ensures .0) _ _ _
+    (c .before .before .wrap-threshold .ensures) (c .before .power .ensures) (c .power2 .ensures) in
+    (ready, prepared-is _ ready)
 
 pub prepare-spec : {M : Type 1} → statement M
 prepare-spec = tie.close (tie.spec (λ c κs. tt) (λ c κs. tt) cast-count mul-d sub-d wrap-threshold-requires power-requires sub-t10 cast-t11 power-requires-2 sub-t13 cast-t14 returns)
