@@ -1,4 +1,4 @@
 pub mod Answers
 pub mod Step
-pub mod Params
+pub mod Prepared
 pub mod Column
