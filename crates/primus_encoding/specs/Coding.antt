@@ -12,7 +12,8 @@ use Rattle.checks.specs.declared.WordAnswer.{WordAnswer}
 use Rattle.primus_encoding.specs.declared.coding.Coding.{Coding}
 use Rattle.primus_encoding.specs.declared.coding.Coding.the-variants.{Encode, Decode, AddEncoding}
 use Rattle.primus_encoding.specs.Answers.{rows, encodeWord, addWord, encodeRows, decodeRows, addRows}
-use Rattle.primus_encoding.specs.Answers.{encodeSliceRows, decodeSliceRows, addSliceRows, encoded, decoded, added}
+use Rattle.primus_encoding.specs.Answers.{encodeSliceRows, decodeSliceRows, addSliceRows}
+use Rattle.primus_encoding.specs.Answers.{encoded, decoded, added}
 
 -- checks 7 and 8 have passed, and q is at most 2^32
 pub record Moduli (t q : ℕ) : Type 0 where
