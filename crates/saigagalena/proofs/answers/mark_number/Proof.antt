@@ -1,6 +1,6 @@
 use borrow.Author.Needs.{needs}
-use Rattle.saigagalena.proofs.lattice.mark_number.Statement.{statement}
-use Rattle.saigagalena.proofs.lattice.mark_number.Tie as tie
+use Rattle.saigagalena.proofs.answers.mark_number.Statement.{statement}
+use Rattle.saigagalena.proofs.answers.mark_number.Tie as tie
 
 returns-3 : tie.Need-returns-3
 returns-3 c = rw (c .before .before .answer2 .given .1) (c .refused .ensures)
