@@ -1,11 +1,11 @@
 // A basis record: try_new's answer, and what the basis then says of itself.
+use checks::WordAnswer;
 use primus_decompose::ApproxSignedBasis;
 use primus_decompose::ApproxSignedBasisAnswer;
 use primus_decompose::DecompositionBaseLog;
 use primus_decompose::DecompositionBaseLogAnswer;
 use primus_decompose::DecompositionLevelCount;
 use primus_decompose::RetainedLevels;
-use primus_decompose::WordAnswer;
 use primus_reduce::Modulus;
 
 // The basis that was accepted last.

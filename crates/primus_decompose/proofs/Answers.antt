@@ -3,47 +3,27 @@
 use mathlib.Core.Path.{_≡_, refl, sym, ap, ap₂, subst, _∙_}
 use mathlib.Core.Bool.{Bool, true, false, not, _&&_}
 use mathlib.Core.List.{List, [], _∷_, _++_}
-use Prim.Native.Nat.{ℕ, _+_, _*_, _/_, _%_, _^_, _≤_, _<_}
-use native.Mathlib.Nat.{div-zero, mul-one, zero-add}
+use Prim.Native.Nat.{ℕ, _+_, _*_, _<_}
+use native.Mathlib.Nat.{mul-one, zero-add}
 use native.Mathlib.Omega.{arith}
 use lib.ListN.{length, getD}
 use lib.Dec.{ltb, leb, eqb}
-use borrow.Author.Tests.{lt-ltb, lt-leb, le-leb, ltb-true, ltb-false, eq-eqb, ne-eqb}
+use borrow.Author.Tests.{lt-leb, le-leb, ltb-true, ltb-false}
 use Rattle.scheme.specs.Numbers.{pick}
-use Rattle.scheme.specs.Modulus.{Fits}
 use Rattle.scheme.specs.Basis.{Basis}
-use Rattle.scheme.specs.Checks.{row, refusal, basisRows, allOf, lengthFails, wordsFail, Writes}
-use Rattle.scheme.proofs.Checks.{Sound, sound, length-ok, word-ok, words-ok}
+use Rattle.scheme.specs.Checks.{row, refusal, allOf, lengthFails, wordsFail, Writes}
+use Rattle.scheme.proofs.Checks.{length-ok, word-ok, words-ok}
 use Rattle.scheme.proofs.Order.{passed, passed-part, given, writes-by}
 use Rattle.scheme.proofs.Lists.{is-tabulate, length-runs, getD-runs}
 use Rattle.scheme.specs.Digits.{digit, stored, digitsOf, runsOf}
-use Rattle.primus_reduce.proofs.Laws.{one-shl}
-use Rattle.primus_reduce.specs.Ring.{meant, sizeOf}
-use Rattle.primus_reduce.specs.declared.modulus.Modulus.{Modulus}
+use Rattle.primus_reduce.specs.Ring.{sizeOf}
+use Rattle.gadget_constants.specs.declared.prepared.PreparedBasis.{PreparedBasis}
+use Rattle.gadget_constants.specs.Prepared.{Ready, basisIn}
+use Rattle.gadget_constants.specs.Word.{Words}
 use Rattle.primus_decompose.specs.declared.primitive.basis.ApproxSignedBasis.{ApproxSignedBasis}
-use Rattle.primus_decompose.specs.declared.primitive.prepared.PreparedBasis.{PreparedBasis}
-use Rattle.primus_decompose.specs.Prepared.{Ready, basisIn}
-use Rattle.primus_decompose.specs.Column.{Words}
 use Rattle.primus_decompose.specs.Answers.{basis, rows, preparedBy, wordRows, digitRows, Decomposes, sliceRows, DecomposesSlice}
-use Rattle.primus_decompose.proofs.Windows.{wide}
-
--- ---- the checks of a basis
-
-pub base-over : (log q : ℕ) → q < 2 ^ 32 → 32 ≤ log → true ≡ ltb q (2 ^ log)
-base-over log q h k = sym (lt-ltb q (2 ^ log) (wide 32 log q h k))
-
-pub base-test : (log q : ℕ) → log < 32 → ltb q ((1 * 2 ^ log) % 2 ^ 32) ≡ ltb q (2 ^ log)
-base-test log q h = ap (ltb q) (one-shl 32 log h)
-
-pub full-none : (k log : ℕ) → log ≡ 0 → 0 ≡ k / log
-full-none k log e = sym (ap (λ n. k / n) e ∙ div-zero k)
 
 -- ---- what a passed refusal leaves
-
-pub sound-basis : (m : Modulus) (b L : ℕ) → Fits 32 (meant m) → refusal (basisRows 32 (meant m) b L) ≡ 0 → Sound 32 (meant m) b L
-sound-basis m b L f e =
-    let no = passed (basisRows 32 (meant m) b L) e in
-    sound 32 (meant m) b L f (no 1 tt) (no 2 tt) (no 3 tt) (no 5 tt)
 
 -- what a call on one word may go on with: a basis that is ready, and a word below q
 pub record Passed (b : ApproxSignedBasis) (a : ℕ) : Type 1 where

@@ -1,23 +1,26 @@
 -- The answers of the calls: the value that a definition gives, or the first number that applies.
-use mathlib.Core.Bool.{Bool}
 use mathlib.Core.List.{List, [], _∷_, _++_}
-use Prim.Native.Nat.{ℕ, _+_, _*_, _/_, _%_, _^_}
+use Prim.Native.Nat.{ℕ, _*_, _%_, _^_}
 use lib.Dec.{eqb, ltb}
-use lib.IntN.{ℤ, pos, _-ℤ_}
+use lib.IntN.{ℤ}
 use lib.ListN.{length}
 use Rattle.scheme.specs.Numbers.{pick}
-use Rattle.scheme.specs.Modulus as S
 use Rattle.scheme.specs.Basis as B
 use Rattle.scheme.specs.Reading as R
 use Rattle.scheme.specs.Digits.{digitsOf, runsOf}
 use Rattle.scheme.specs.Checks.{Check, row, refusal, Writes, basisRows}
-use Rattle.scheme.specs.Checks.{baseLogFails, lengthFails, wordFails, wordsFail}
+use Rattle.scheme.specs.Checks.{lengthFails, wordFails, wordsFail}
 use Rattle.primus_reduce.specs.Ring.{meant, sizeOf}
 use Rattle.primus_reduce.specs.declared.modulus.Modulus.{Modulus}
 use Rattle.checks.specs.declared.WordAnswer.{WordAnswer}
 use Rattle.checks.specs.Answers.{wordAnswer}
-use Rattle.primus_decompose.specs.declared.error.DecompositionBaseLogAnswer.{DecompositionBaseLogAnswer}
-use Rattle.primus_decompose.specs.declared.error.DecompositionBaseLogAnswer.the-variants as L
+use Rattle.gadget_parameters.specs.declared.DecompositionBaseLog.{DecompositionBaseLog}
+use Rattle.gadget_parameters.specs.declared.RetainedLevels.{RetainedLevels}
+use Rattle.gadget_parameters.specs.Kinds.{levelsFor, levelCount}
+use Rattle.gadget_digits.specs.Step.{decomposerOf}
+use Rattle.gadget_constants.specs.declared.prepared.PreparedBasis.{PreparedBasis}
+use Rattle.gadget_constants.specs.Prepared.{basisBy, preparedOf, Ready}
+use Rattle.gadget_constants.specs.Word.{initOf, readingOf, signedBy}
 use Rattle.primus_decompose.specs.declared.error.ApproxSignedBasisAnswer.{ApproxSignedBasisAnswer}
 use Rattle.primus_decompose.specs.declared.error.ApproxSignedBasisAnswer.the-variants as A
 use Rattle.primus_decompose.specs.declared.error.ValueCarryAnswer.{ValueCarryAnswer}
@@ -28,31 +31,7 @@ use Rattle.primus_decompose.specs.declared.error.ReadingAnswer.{ReadingA
 use Rattle.primus_decompose.specs.declared.error.ReadingAnswer.the-variants as E
 use Rattle.primus_decompose.specs.declared.error.PreparedBasisAnswer.{PreparedBasisAnswer}
 use Rattle.primus_decompose.specs.declared.error.PreparedBasisAnswer.the-variants as P
-use Rattle.primus_decompose.specs.declared.parameters.DecompositionBaseLog.{DecompositionBaseLog}
-use Rattle.primus_decompose.specs.declared.parameters.DecompositionLevelCount.{DecompositionLevelCount}
-use Rattle.primus_decompose.specs.declared.parameters.RetainedLevels.{RetainedLevels}
-use Rattle.primus_decompose.specs.declared.parameters.RetainedLevels.the-variants.{Full, Count}
 use Rattle.primus_decompose.specs.declared.primitive.basis.ApproxSignedBasis.{ApproxSignedBasis}
-use Rattle.primus_decompose.specs.declared.primitive.basis.Reading.{Reading}
-use Rattle.primus_decompose.specs.declared.primitive.prepared.PreparedBasis.{PreparedBasis}
-use Rattle.primus_decompose.specs.Prepared.{basisBy, preparedOf, Ready, initOf, decomposerOf}
-
--- a base log judges 1
-abbrev pub baseLogRows : ℕ → List Check
-baseLogRows b = row (baseLogFails 32 b) 1 ∷ []
-
-abbrev pub baseLogAnswer : ℕ → DecompositionBaseLogAnswer
-baseLogAnswer b =
-    pick (eqb (refusal (baseLogRows b)) 0) (L.Accepted (record { 0 = b })) (L.Refused (refusal (baseLogRows b)))
-
--- levels given, or left open
-abbrev pub meantLevels : RetainedLevels → B.Levels
-meantLevels Full = B.leftOpen
-meantLevels (Count n) = B.given (n .0)
-
--- L
-abbrev pub levelCount : Modulus → ℕ → RetainedLevels → ℕ
-levelCount m b l = B.levelsOf (S.bits 32 (meant m)) b (meantLevels l)
 
 -- the basis that a value stands for
 abbrev pub basis : ApproxSignedBasis → B.Basis
@@ -66,11 +45,7 @@ rows b = basisRows 32 (meant (b .modulus)) (b .«log_basis» .0) (b .«level_cou
 abbrev pub basisFrom : Modulus → DecompositionBaseLog → RetainedLevels → ApproxSignedBasis
 basisFrom m b l = record { modulus = m; «log_basis» = b; «level_count» = record { 0 = levelCount m (b .0) l } }
 
--- levels as a number, 0 where they are left open
-abbrev pub levelsFor : ℕ → RetainedLevels
-levelsFor n = pick (eqb n 0) Full (Count (record { 0 = n }))
-
--- the basis of plain numbers
+-- the basis of plain numbers, levels 0 left open
 abbrev pub basisWith : Modulus → ℕ → ℕ → ApproxSignedBasis
 basisWith m b l = basisFrom m (record { 0 = b }) (levelsFor l)
 
@@ -91,9 +66,6 @@ baseWord b = 2 ^ b .«log_basis» .0 % 2 ^ 32
 -- weight j as a word, for j below L; there are no others
 abbrev pub weightWord : ApproxSignedBasis → ℕ → ℕ
 weightWord b j = pick (ltb j (b .«level_count» .0)) (B.weight (basis b) j % 2 ^ 32) 0
-
-abbrev pub scalarAt : ℕ → ℕ → ℕ → ℕ → ℕ
-scalarAt d log L j = pick (ltb j L) (2 ^ (d + j * log) % 2 ^ 32) 0
 
 -- T, or the first of 1 to 5
 abbrev pub thresholdAnswer : ApproxSignedBasis → WordAnswer
@@ -124,16 +96,13 @@ decomposerAnswer b a =
     pick (eqb (refusal (wordRows b a)) 0) (D.Ready (decomposerOf (basis b) a)) (D.Refused (refusal (wordRows b a)))
 
 -- the reading and ε
-abbrev pub readingOf : B.Basis → ℕ → Reading
-readingOf b a = record { reading = R.reading b a; error = R.rounding b a }
-
 abbrev pub readingAnswer : ApproxSignedBasis → ℕ → ReadingAnswer
 readingAnswer b a =
     pick (eqb (refusal (wordRows b a)) 0) (E.Read (readingOf (basis b) a)) (E.Refused (refusal (wordRows b a)))
 
--- a stored digit as a signed number: itself below B/2, else q less
+-- a stored digit as a signed number
 abbrev pub signedDigit : ApproxSignedBasis → ℕ → ℤ
-signedDigit b w = pick (ltb w (baseWord b / 2)) (pos w) (pos w -ℤ pos (sizeOf (b .modulus)))
+signedDigit b w = signedBy (baseWord b) (sizeOf (b .modulus)) w
 
 -- the digits of a word, into `room` words, judge 1 to 5, 11 and 14
 abbrev pub digitRows : ApproxSignedBasis → ℕ → ℕ → List Check

@@ -1,21 +1,18 @@
-// A basis from plain numbers, as the program and the C service have them.
+// A basis from plain numbers.
 ghost use mathlib.Core.Path.{_≡_};
-ghost use Rattle.primus_decompose.specs.Answers.{levelsFor, made};
+ghost use Rattle.gadget_parameters.specs.Kinds.{levelsFor};
+ghost use Rattle.primus_decompose.specs.Answers.{made};
 use crate::error::ApproxSignedBasisAnswer;
-use crate::parameters::DecompositionBaseLog;
-use crate::parameters::DecompositionLevelCount;
-use crate::parameters::RetainedLevels;
 use crate::primitive::ApproxSignedBasis;
+use gadget_parameters::DecompositionBaseLog;
+use gadget_parameters::RetainedLevels;
 use primus_reduce::Modulus;
 
 // 0 is left open.
 pub fn levels_for(n: u32) -> RetainedLevels
     ensures { λ r. ⌜ r ≡ levelsFor n ⌝ }
 {
-    if n == 0 {
-        return RetainedLevels::Full;
-    }
-    RetainedLevels::Count(DecompositionLevelCount::new(n as usize))
+    RetainedLevels::given(n)
 }
 
 // Refuses by 1 to 5.

@@ -1,30 +1,27 @@
 // The gadget basis modulo q: B = 2^base log, weights 2^d × B^j, digits in −B/2 … B/2 − 1.
 ghost use mathlib.Core.Path.{_≡_};
-ghost use Prim.Native.Nat.{_+_, _*_, _^_, _<_, _≤_};
+ghost use Prim.Native.Nat.{_≤_};
 ghost use Rattle.scheme.specs.Numbers.{tabulate};
 ghost use Rattle.scheme.specs.Modulus.{bits};
 ghost use Rattle.scheme.specs.Basis.{bound, dropped};
 ghost use Rattle.scheme.specs.Checks.{refusal};
 ghost use Rattle.primus_reduce.specs.Ring.{meant, powerOfTwo};
 ghost use Rattle.checks.specs.Judged.{JudgesSizes};
-ghost use Rattle.primus_decompose.specs.Answers.{levelCount, basisFrom, basisWith, basisAnswer, basis, rows};
-ghost use Rattle.primus_decompose.specs.Answers.{baseWord, weightWord, scalarAt, thresholdAnswer, preparedBy};
-ghost use Rattle.primus_decompose.specs.Answers.{preparedAnswer, WhereReady, wordRows, initAnswer, decomposerAnswer};
-ghost use Rattle.primus_decompose.specs.Answers.{sliceRows};
-ghost use Rattle.primus_decompose.specs.Prepared.{Ready};
+ghost use Rattle.gadget_constants.specs.Prepared.{Ready};
+ghost use Rattle.primus_decompose.specs.Answers.{basisFrom, basisWith, basisAnswer, basis, rows, wordRows};
+ghost use Rattle.primus_decompose.specs.Answers.{baseWord, weightWord, thresholdAnswer, preparedBy, WhereReady};
+ghost use Rattle.primus_decompose.specs.Answers.{preparedAnswer, initAnswer, decomposerAnswer, sliceRows};
 use crate::error::ApproxSignedBasisAnswer;
 use crate::error::DecomposerAnswer;
 use crate::error::PreparedBasisAnswer;
 use crate::error::ValueCarryAnswer;
-use crate::numbers;
-use crate::parameters::DecompositionBaseLog;
-use crate::parameters::DecompositionLevelCount;
-use crate::parameters::RetainedLevels;
-use crate::primitive::prepared;
-use crate::primitive::prepared::PreparedBasis;
 use checks::Sizes;
 use checks::Values;
 use checks::WordAnswer;
+use gadget_constants::PreparedBasis;
+use gadget_parameters::DecompositionBaseLog;
+use gadget_parameters::DecompositionLevelCount;
+use gadget_parameters::RetainedLevels;
 use primus_reduce::Modulus;
 
 // Three numbers, judged by 1 to 5 by every call that takes them.
@@ -32,28 +29,6 @@ pub struct ApproxSignedBasis {
     modulus: Modulus,
     log_basis: DecompositionBaseLog,
     level_count: DecompositionLevelCount,
-}
-
-// The adjusted word and the carry into the lowest level.
-pub struct ValueCarry {
-    pub value: u32,
-    pub carry: bool,
-}
-
-// The reading of a word and its rounding error ε.
-pub struct Reading {
-    pub reading: i64,
-    pub error: i64,
-}
-
-// L: the count given, or all whole levels.
-fn level_count_of(modulus: Modulus, log: u32, level_count: RetainedLevels) -> usize
-    ensures { λ r. ⌜ r ≡ levelCount modulus log «level_count» ⌝ }
-{
-    match level_count {
-        RetainedLevels::Full => prepared::full_count(modulus.value_bits(), log),
-        RetainedLevels::Count(n) => n.get(),
-    }
 }
 
 impl ApproxSignedBasis {
@@ -77,11 +52,8 @@ impl ApproxSignedBasis {
     pub fn given(modulus: Modulus, base_log: u32, levels: u32) -> ApproxSignedBasis
         ensures { λ r. ⌜ r ≡ basisWith modulus «base_log» levels ⌝ }
     {
-        ApproxSignedBasis::of(
-            modulus,
-            DecompositionBaseLog::given(base_log),
-            numbers::levels_for(levels),
-        )
+        let log_basis = DecompositionBaseLog::given(base_log);
+        ApproxSignedBasis::of(modulus, log_basis, RetainedLevels::given(levels))
     }
 
     fn of(
@@ -91,11 +63,10 @@ impl ApproxSignedBasis {
     ) -> ApproxSignedBasis
         ensures { λ r. ⌜ r ≡ basisFrom modulus «log_basis» «level_count» ⌝ }
     {
-        let levels = level_count_of(modulus, log_basis.get(), level_count);
         ApproxSignedBasis {
             modulus,
             log_basis,
-            level_count: DecompositionLevelCount::new(levels),
+            level_count: level_count.count(log_basis, modulus),
         }
     }
 
@@ -139,7 +110,7 @@ impl ApproxSignedBasis {
         ensures { λ r. ⌜ r ≡ baseWord self ⌝ }
     {
         let log = self.log_basis;
-        prepared::power_word(log.get() as u64)
+        gadget_constants::power_word(log.get() as u64)
     }
 
     // d
@@ -148,14 +119,14 @@ impl ApproxSignedBasis {
     {
         let log = self.log_basis;
         let levels = self.level_count;
-        prepared::drop_bits(self.value_bits(), log.get(), levels.get())
+        gadget_constants::drop_bits(self.value_bits(), log.get(), levels.get())
     }
 
     // H
     pub fn approximate_error_bound(self) -> u32
         ensures { λ r. ⌜ r ≡ bound (basis self) ⌝ }
     {
-        prepared::error_bound(self.drop_bits())
+        gadget_constants::error_bound(self.drop_bits())
     }
 
     // The weights 2^d × B^j for j below L, as words; 0 above.
@@ -164,7 +135,7 @@ impl ApproxSignedBasis {
     {
         let log = self.log_basis;
         let levels = self.level_count;
-        scalars_from(self.drop_bits(), log.get(), levels.get())
+        gadget_constants::scalars_from(self.drop_bits(), log.get(), levels.get())
     }
 
     // T. Refuses by 1 to 5.
@@ -187,7 +158,8 @@ impl ApproxSignedBasis {
         if r != 0 {
             return ValueCarryAnswer::Refused(r);
         }
-        ValueCarryAnswer::Ready(prepared::init(self.prepared(), value))
+        let p = self.prepared();
+        ValueCarryAnswer::Ready(p.init_value_carry(value))
     }
 
     // The decomposer of a word, before its lowest level. Refuses by 1 to 5, 14.
@@ -198,7 +170,8 @@ impl ApproxSignedBasis {
         if r != 0 {
             return DecomposerAnswer::Refused(r);
         }
-        DecomposerAnswer::Ready(prepared::decomposer(self.prepared(), value))
+        let p = self.prepared();
+        DecomposerAnswer::Ready(p.decomposer(value))
     }
 
     // The basis with its constants, for many words. Refuses by 1 to 5.
@@ -219,7 +192,7 @@ impl ApproxSignedBasis {
         let modulus = self.modulus;
         let log = self.log_basis;
         let levels = self.level_count;
-        prepared::basis_sizes(modulus, log.get(), levels.get())
+        gadget_parameters::basis_sizes(modulus, log, levels)
     }
 
     // The first of 1 to 5 that applies, or 0.
@@ -269,29 +242,6 @@ impl ApproxSignedBasis {
         let modulus = self.modulus;
         let log = self.log_basis;
         let levels = self.level_count;
-        prepared::prepare(modulus, log.get(), levels.get())
+        gadget_constants::prepare(modulus, log.get(), levels.get())
     }
-}
-
-fn scalars_from(d: u32, log: u32, levels: usize) -> [u32; 16]
-    ensures { λ r. ⌜ r ≡ tabulate 16 (scalarAt d log levels) ⌝ }
-{
-    let mut w = [0u32; 16];
-    let mut j = 0;
-    while j < 16 {
-        w[j] = scalar(d, log, levels, j);
-        j += 1;
-    }
-    w
-}
-
-// 2^(d + j × log) as a word for j below L, else 0.
-fn scalar(d: u32, log: u32, levels: usize, j: usize) -> u32
-    requires { ⌜ j < 16 ⌝ }
-    ensures { λ r. ⌜ r ≡ scalarAt d log levels j ⌝ }
-{
-    if levels <= j {
-        return 0;
-    }
-    prepared::power_word(d as u64 + j as u64 * log as u64)
 }

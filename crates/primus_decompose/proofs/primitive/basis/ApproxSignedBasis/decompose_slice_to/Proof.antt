@@ -1,9 +1,9 @@
-use mathlib.Core.Path.{_≡_, ap, sym, _∙_}
+use mathlib.Core.Path.{ap, sym, _∙_}
 use borrow.Author.Needs.{needs}
 use lib.ListN.{length}
 use Rattle.scheme.specs.Digits.{runsOf}
 use Rattle.scheme.proofs.Order.{refused, done}
-use Rattle.primus_decompose.specs.Prepared.{basisIn}
+use Rattle.gadget_constants.specs.Prepared.{basisIn}
 use Rattle.primus_decompose.proofs.Answers.{Decomposable, decomposable}
 use Rattle.primus_decompose.proofs.primitive.basis.ApproxSignedBasis.decompose_slice_to.Statement.{statement}
 use Rattle.primus_decompose.proofs.primitive.basis.ApproxSignedBasis.decompose_slice_to.Tie as tie

@@ -1,6 +1,8 @@
+use mathlib.Core.Path.{_∙_}
 use Rattle.scheme.proofs.Order.{told}
+use Rattle.gadget_digits.specs.Step.{decomposerOf}
+use Rattle.gadget_constants.proofs.Constants.{decomposer-ready}
 use Rattle.primus_decompose.specs.declared.error.DecomposerAnswer.the-variants.{Ready, Refused}
-use Rattle.primus_decompose.specs.Prepared.{decomposerOf}
 use Rattle.primus_decompose.proofs.Answers.{Passed, passes}
 use Rattle.primus_decompose.proofs.primitive.basis.ApproxSignedBasis.decomposer.Statement.{statement}
 use Rattle.primus_decompose.proofs.primitive.basis.ApproxSignedBasis.decomposer.Tie as tie
@@ -12,9 +14,12 @@ word : (c : tie.Else1) → let a = c .before .before .args in Passed (a .self) (
 word c = passes (c .before .word-refusal .ensures) (c .if1 .left)
 
 returns-2 : tie.Need-returns-2
-returns-2 c = let p = c .before in word (p .before) .answer Ready (λ b. decomposerOf b (p .before .before .before .args .value)) _ (p .prepared .ensures) (c .decomposer .ensures)
+returns-2 c =
+    let p = c .before in
+    let w = word (p .before) in
+    let r = w .ready (p .prepared .ensures) in
+    let a = p .before .before .before .args .value in
+    w .answer Ready (λ b. decomposerOf b a) _ (p .prepared .ensures) (c .decomposer .ensures ∙ decomposer-ready _ (r .0) a (r .1))
 
 pub decomposer-spec : {M : Type 1} → statement M
-decomposer-spec =
-    tie.close
-    (tie.spec (λ c κs. tt) returns (λ c κs. word c .judged) (λ c κs. word (c .before) .ready (c .prepared .ensures)) returns-2)
+decomposer-spec = tie.close (tie.spec (λ c κs. tt) returns (λ c κs. word c .judged) (λ c κs. tt) returns-2)

@@ -8,7 +8,7 @@ returns c =
     let l = c .before in
     let g = l .before in
     c .of .ensures
-    ∙ ap₂ (λ b n. basisFrom (g .before .args .modulus) (record { 0 = b }) n) (g .given .ensures) (l .levels-for .ensures)
+    ∙ ap₂ (λ b n. basisFrom (g .before .args .modulus) (record { 0 = b }) n) (g .given .ensures) (l .given2 .ensures)
 
 pub given-spec : {M : Type 1} → statement M
 given-spec = tie.close (tie.spec (λ c κs. tt) (λ c κs. tt) (λ c κs. tt) returns)

@@ -1,7 +1,7 @@
 use mathlib.Core.Path.{ap₂, _∙_}
 use Rattle.scheme.specs.Checks.{refusal, basisRows}
 use Rattle.primus_reduce.specs.Ring.{meant}
-use Rattle.primus_decompose.specs.Prepared.{preparedOf}
+use Rattle.gadget_constants.specs.Prepared.{preparedOf}
 use Rattle.primus_decompose.proofs.primitive.basis.ApproxSignedBasis.prepared.Statement.{statement}
 use Rattle.primus_decompose.proofs.primitive.basis.ApproxSignedBasis.prepared.Tie as tie
 
