@@ -19,16 +19,25 @@ def comments_out(text, mark):
     return re.sub(mark + r'[^\n]*', '', text)
 
 
+def imported(text):
+    """Which crate each name of the text's imports comes from."""
+    names = {}
+    for m in re.finditer(r'^(?:ghost )?use Rattle·(\w+?)(?:·specs)?\.specs\.[\w.]+\.\{([^}]*)\}', text, re.M):
+        names.update((name.split(' as ')[0].strip(), m.group(1)) for name in m.group(2).split(','))
+    return names
+
+
 def functions(crate):
-    """The public functions of a crate: name (with its type, if it is a method) and contract."""
+    """The public functions of a crate: name (with its type, if it is a method), contract, and where its names come from."""
     found = {}
     for path in sorted((ROOT / 'crates' / crate / 'src').rglob('*.rt')):
         text = comments_out(path.read_text(), '//')
+        names = imported(text)
         for m in FUNCTION.finditer(text):
             owner = re.findall(r'^impl (\w+)', text[:m.start()], re.M) if m.group(1) else []
             name = (owner[-1] + '::' if owner else '') + m.group(2)
             body = re.search(r'^%s\{| \{$' % m.group(1), text[m.end():], re.M)
-            found[name] = text[m.end():m.end() + body.start()]
+            found[name] = text[m.end():m.end() + body.start()], names
     return found
 
 
@@ -37,11 +46,27 @@ def definitions(crate):
     found, imports = {}, {}
     for path in sorted((ROOT / 'crates' / crate / 'specs').rglob('*.antt')):
         text = comments_out(path.read_text(), '--')
-        for m in re.finditer(r'^use Rattle·(\w+?)(?:·specs)?\.specs\.[\w.]+\.\{([^}]*)\}', text, re.M):
-            imports.update((name.strip(), m.group(1)) for name in m.group(2).split(','))
+        imports.update(imported(text))
         for m in re.finditer(r'^(?:abbrev |unfoldable )?pub (?:record |data )?(\w+).*?(?=\n\n|\Z)', text, re.M | re.S):
             found[m.group(1)] = m.group(0)
     return found, imports
+
+
+def row_numbers(text):
+    """The N of each `row CONDITION N`."""
+    found = set()
+    for m in re.finditer(r'\brow ', text):
+        at = m.end()
+        if text[at] == '(':
+            depth = 0
+            for at in range(at, len(text)):
+                depth += (text[at] == '(') - (text[at] == ')')
+                if depth == 0:
+                    break
+        number = re.match(r'\S* (\d+)', text[at:])
+        if number:
+            found.add(int(number.group(1)))
+    return found
 
 
 def numbers_of(crate, name, specs, seen):
@@ -54,9 +79,9 @@ def numbers_of(crate, name, specs, seen):
         home = imports.get(name)
         return numbers_of(home, name, specs, seen) if home and home != crate else set()
     text = found[name]
-    numbers = {int(n) for n in re.findall(r'\brow (?:\([^\n]*\)|\w+) (\d+)', text)}
+    numbers = row_numbers(text)
     for other in set(NAME.findall(text)):
-        if other != name and re.search(r'(Rows|Refusal|Answer|^rows)$', other):
+        if other != name and re.search(r'(Rows|Answer|^rows|^tried)$', other):
             numbers |= numbers_of(crate, other, specs, seen)
     return numbers
 
@@ -76,7 +101,7 @@ def tables():
         if heading:
             crate = heading.group(1)
         cells = [c.strip() for c in line.strip().strip('|').split(' | ')]
-        if crate and line.startswith('| `') and len(cells) == 4:
+        if crate and line.startswith('| `') and not line.startswith('| `saigagalena_`') and len(cells) == 4:
             yield crate, re.findall(r'`([\w:]+)`', cells[0]), cells
 
 
@@ -95,18 +120,19 @@ def main():
         code.setdefault(crate, functions(crate))
         promise = re.search(r'`(\w+)', cells[3])
         for name in names:
-            full = name if name in code[crate] else next((f for f in code[crate] if f.endswith('::' + name)), None)
+            full = next((f for f in (name, 'saigagalena_' + name) if f in code[crate]), None)
             where = '%s: `%s`' % (crate, name)
             if full is None:
                 faults.append(where + ' is no public function')
                 continue
-            named.setdefault(crate, set()).update(f for f in code[crate] if f == full or f.endswith('::' + name))
-            contract = code[crate][full]
+            named.setdefault(crate, set()).add(full)
+            contract, names = code[crate][full]
             if promise is None:
                 continue
             if promise.group(1) not in NAME.findall(contract):
                 faults.append('%s: its contract does not name `%s`' % (where, promise.group(1)))
-            want = sorted(numbers_of(crate, promise.group(1), specs, set()), key=order.index)
+            home = names.get(promise.group(1), crate)
+            want = sorted(numbers_of(home, promise.group(1), specs, set()), key=order.index)
             if listed(cells[2]) != want:
                 faults.append('%s: refuses by %s, and by CALLS.md %s' % (where, want, listed(cells[2])))
     for crate in code:

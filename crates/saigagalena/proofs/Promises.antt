@@ -9,6 +9,11 @@ use Rattle.primus_decompose.specs.declared.primitive.basis.ApproxSignedBasis.{A
 use Rattle.primus_decompose.specs.Answers.{DecomposesSlice}
 use Rattle.primus_encoding.specs.declared.PlaintextEmbedding.{PlaintextEmbedding}
 use Rattle.primus_encoding.specs.Answers.{EncodesSlice, DecodesSlice}
+use Rattle.scheme.specs.Lwe.{Key}
+use Rattle.checks.specs.declared.WordAnswer.{WordAnswer}
+use Rattle.primus_lwe.specs.declared.parameter.LweEncryptionParameters.{LweEncryptionParameters}
+use Rattle.primus_lwe.specs.declared.parameter.LweParameters.{LweParameters}
+use Rattle.primus_lwe.specs.Answers.{Encrypts, EncryptsMessage, TakesPhase, Decrypts}
 use Rattle.saigagalena.specs.Bases.{WritesBasis, WritesReading}
 
 module _ {b d : ApproxSignedBasis} (e : b ≡ d) {r : ℕ} where
@@ -32,3 +37,21 @@ module _ {t u : ℕ} {m k : Modulus} (e : (t ≡ u) × (m ≡ k)) {xs before : L
       subst (λ (z : PlaintextEmbedding). EncodesSlice u k z xs before r after) eg
       (subst (λ (z : Modulus). EncodesSlice u z g xs before r after) (e .1)
       (subst (λ (z : ℕ). EncodesSlice z m g xs before r after) (e .0) h))
+
+module _ {P Q : LweEncryptionParameters} (e : P ≡ Q) where
+  pub encrypts-of : {key : Key} {a : List ℕ} {es : List ℤ} {p : ℕ} {before after : List ℕ} {r : ℕ}
+      → Encrypts P key a es p before r after → Encrypts Q key a es p before r after
+  encrypts-of {key} {a} {es} {p} {before} {after} {r} h = subst (λ (z : LweEncryptionParameters). Encrypts z key a es p before r after) e h
+
+  pub takes-phase-of : {key : Key} {x : List ℕ} {answer : WordAnswer} → TakesPhase P key x answer → TakesPhase Q key x answer
+  takes-phase-of {key} {x} {answer} h = subst (λ (z : LweEncryptionParameters). TakesPhase z key x answer) e h
+
+module _ {P Q : LweParameters} (e : P ≡ Q) where
+  pub encrypts-message-of : {g f : PlaintextEmbedding} → g ≡ f → {key : Key} {a : List ℕ} {es : List ℤ} {x : ℕ} {before after : List ℕ} {r : ℕ}
+      → EncryptsMessage P g key a es x before r after → EncryptsMessage Q f key a es x before r after
+  encrypts-message-of {g} {f} eg {key} {a} {es} {x} {before} {after} {r} h =
+      subst (λ (z : PlaintextEmbedding). EncryptsMessage Q z key a es x before r after) eg
+      (subst (λ (z : LweParameters). EncryptsMessage z g key a es x before r after) e h)
+
+  pub decrypts-of : {key : Key} {x : List ℕ} {answer : WordAnswer} → Decrypts P key x answer → Decrypts Q key x answer
+  decrypts-of {key} {x} {answer} h = subst (λ (z : LweParameters). Decrypts z key x answer) e h

@@ -3,8 +3,20 @@
 use Prim.Native.Nat.{ℕ}
 use lib.Dec.{eqb}
 use Rattle.scheme.specs.Numbers.{pick}
+use Rattle.primus_reduce.specs.Ring.{modulusFor}
 use Rattle.primus_encoding.specs.declared.PlaintextEmbedding.{PlaintextEmbedding}
 use Rattle.primus_encoding.specs.declared.PlaintextEmbedding.the-variants.{Unsigned, Centered}
+use Rattle.primus_lattice.specs.Answers.{given}
+use Rattle.primus_lwe.specs.declared.parameter.LweEncryptionParameters.{LweEncryptionParameters}
+use Rattle.primus_lwe.specs.declared.parameter.LweParameters.{LweParameters}
 
 abbrev pub embeddingFor : ℕ → PlaintextEmbedding
 embeddingFor centered = pick (eqb centered 0) Unsigned Centered
+
+-- q, n and E
+abbrev pub encryptionWith : ℕ → ℕ → ℕ → LweEncryptionParameters
+encryptionWith q n e = record { dimension = given n; modulus = modulusFor q; «error_limit» = e }
+
+-- q, n, t and E
+abbrev pub messagesWith : ℕ → ℕ → ℕ → ℕ → LweParameters
+messagesWith q n t e = record { dimension = given n; modulus = modulusFor q; «plaintext_modulus» = t; «error_limit» = e }

@@ -1,4 +1,5 @@
 -- Answers of one number: "gets one 64-bit number: the message, or 2^32 plus the refusal number."
+use mathlib.Core.Path.{_≡_}
 use Prim.Native.Nat.{ℕ, _+_, _^_}
 use Rattle.scheme.specs.Numbers.{pick}
 use Rattle.checks.specs.declared.WordAnswer.{WordAnswer}
@@ -19,6 +20,12 @@ refusedNumber r = 2 ^ 32 + r
 abbrev pub wordNumber : WordAnswer → ℕ
 wordNumber (Word x) = x
 wordNumber (Refused r) = refusedNumber r
+
+-- what a call with this promise answers, as one number
+pub record Tells (promise : WordAnswer → Type 0) (r : ℕ) : Type 0 where
+  pub answer : WordAnswer
+  pub kept : promise answer
+  pub told : r ≡ wordNumber answer
 
 -- the decoding of a word, judged by 2, 7, 8 and 14
 abbrev pub decodeNumber : ℕ → ℕ → ℕ → ℕ

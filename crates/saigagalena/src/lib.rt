@@ -2,6 +2,8 @@
 mod answers;
 mod basis;
 mod codec;
+mod decrypt;
+mod encrypt;
 mod lattice;
 mod parameters;
 
@@ -12,6 +14,14 @@ pub use codec::saigagalena_decode;
 pub use codec::saigagalena_decode_slice;
 pub use codec::saigagalena_encode;
 pub use codec::saigagalena_encode_slice;
+pub use decrypt::saigagalena_decrypt_message;
+pub use decrypt::saigagalena_decrypt_message_signed;
+pub use decrypt::saigagalena_decrypt_phase;
+pub use decrypt::saigagalena_decrypt_phase_signed;
+pub use encrypt::saigagalena_encrypt_encoded;
+pub use encrypt::saigagalena_encrypt_encoded_signed;
+pub use encrypt::saigagalena_encrypt_message;
+pub use encrypt::saigagalena_encrypt_message_signed;
 pub use lattice::saigagalena_add;
 pub use lattice::saigagalena_add_tally;
 pub use lattice::saigagalena_extract;
