@@ -12,18 +12,16 @@ use lib.ListN.{length, getD}
 use borrow.Author.Tests.{ltb-false, lt-leb, eqb-true, not-false}
 use Rattle.scheme.specs.Numbers.{residue}
 use Rattle.scheme.specs.Lwe.{rotated, packedPhase}
-use Rattle.scheme.specs.Checks.{firstOf, codecRows, codecRefusal, modulusFails, plaintextFails, smallFails, batchFails, wordsFail, messageFails}
+use Rattle.scheme.specs.Checks.{modulusFails, batchFails, messagesFail}
 use Rattle.scheme.proofs.Residue.{residue-lt}
 use Rattle.scheme.proofs.Checks.{passed, modulus-ok, length-ok, words-ok, packed-ok}
 use Rattle.primus_reduce.specs.Ring.{meant, sizeOf}
 use Rattle.primus_reduce.specs.declared.modulus.Modulus.{Modulus}
-use Rattle.primus_encoding.specs.Answers.{encodeRows, decodeRows}
 use Rattle.primus_lwe.specs.declared.parameter.LweEncryptionParameters.{LweEncryptionParameters}
 use Rattle.primus_lwe.specs.declared.parameter.LweParameters.{LweParameters}
-use Rattle.primus_lwe.specs.Answers.{Coding, Opening, Run}
+use Rattle.primus_lwe.specs.Answers.{Codable, Run}
 use Rattle.primus_lwe.specs.Packed.{Packable, packedMessageRows, packedMessageRefusal, packedOpenRows, packedOpenRefusal}
 use Rattle.primus_lwe.specs.Batch.{Rowwise, batchRows, batchRefusal, batchPhaseRows, batchPhaseRefusal, batchOpenRows, batchOpenRefusal}
-use Rattle.primus_lwe.proofs.Coded.{none-fails}
 use Rattle.primus_lwe.proofs.PackedLaws.{PhasablePacked}
 
 -- a phase is a word
@@ -31,27 +29,10 @@ pub packed-below : (q n : ℕ) (x : List ℕ) (s : ℕ → ℤ) (i p : ℕ) → 
 unfolding packedPhase
 packed-below q n x s i p h e = rw e (residue-lt (pos (getD x (n + i) 0) -ℤ rotated n x s i) q h)
 
-module _ (P : LweParameters) (two : modulusFails (meant (P .modulus)) ≡ false) (seven : plaintextFails (P .«plaintext_modulus») ≡ false)
-    (eight : smallFails (P .«plaintext_modulus») (meant (P .modulus)) ≡ false) where
-  coding : (xs : List ℕ) → wordsFail (P .«plaintext_modulus») xs ≡ false → Coding P xs
-  coding xs e =
-      record {
-        codec = none-fails (codecRows (P .«plaintext_modulus») (meant (P .modulus))) (two, (seven, (eight, tt)));
-        each = λ i h.
-            none-fails (encodeRows (P .«plaintext_modulus») (P .modulus) (getD xs i 0)) (two, (seven, (eight, (lt-leb (P .«plaintext_modulus») (getD xs i 0) (words-ok (P .«plaintext_modulus») xs e i h), tt))));
-      }
-
-  opening : Opening P
-  opening =
-      record {
-        positive = omega (arith, modulus-ok 32 (meant (P .modulus)) (omega arith) two);
-        codec = none-fails (codecRows (P .«plaintext_modulus») (meant (P .modulus))) (two, (seven, (eight, tt)));
-        each = λ p h. none-fails (decodeRows (P .«plaintext_modulus») (P .modulus) p) (two, (seven, (eight, (lt-leb (sizeOf (P .modulus)) p h, tt))));
-      }
-
 pub record PackedMessages (P : LweParameters) (s a : List ℕ) (es : List ℤ) (xs : List ℕ) (room : ℕ) : Type 0 where
   pub able : Packable (sizeOf (P .modulus)) (length a) (length s) (length es) (length xs)
-  pub coded : Coding P xs
+  pub codec : Codable P
+  pub messages : messagesFail (P .«plaintext_modulus») xs ≡ false
   pub mask : length a ≡ P .dimension .0
   pub fits : room ≡ length a + length xs
 
@@ -66,14 +47,15 @@ packable-messages P s a es xs room e =
     let k : length a ≡ n = length-ok _ _ masks in
     record {
       able = record { positive = omega (arith, modulus-ok 32 (meant (P .modulus)) (omega arith) two); keys = omega arith; each = length-ok _ _ errors; most = omega arith };
-      coded = coding P two seven eight xs sixteen;
+      codec = record { modulus-ok = two; plaintext-ok = seven; small-ok = eight };
+      messages = sixteen;
       mask = k;
       fits = omega arith;
     }
 
 pub record PackedOpening (P : LweParameters) (key words room : ℕ) : Type 0 where
   pub phases : PhasablePacked (P .modulus) (P .dimension .0) key words room
-  pub opens : Opening P
+  pub codec : Codable P
 
 pub openable-packed : (P : LweParameters) (s x : List ℕ) (room : ℕ) → packedOpenRefusal P s x room ≡ 0 → PackedOpening P (length s) (length x) room
 unfolding packedOpenRefusal
@@ -84,7 +66,7 @@ openable-packed P s x room e =
     let c : room ≡ length x - n = length-ok _ _ eleven in
     record {
       phases = record { positive = omega (arith, modulus-ok 32 (meant (P .modulus)) (omega arith) two); key = length-ok _ _ nine; bodies = omega arith; whole = omega arith; count = c };
-      opens = opening P two seven eight;
+      codec = record { modulus-ok = two; plaintext-ok = seven; small-ok = eight };
     }
 
 -- ---- batches
@@ -93,7 +75,8 @@ pub record Batchable (P : LweParameters) (s masks : List ℕ) (es : List ℤ) (x
   pub run : Run (sizeOf (P .modulus)) (length s) (length masks) (length es) room
   pub each : length xs ≡ length es
   pub key : length s ≡ P .dimension .0
-  pub coded : Coding P xs
+  pub codec : Codable P
+  pub messages : messagesFail (P .«plaintext_modulus») xs ≡ false
 
 pub batchable : (P : LweParameters) (s masks : List ℕ) (es : List ℤ) (xs : List ℕ) (room : ℕ) → batchRefusal P s masks es xs room ≡ 0 → Batchable P s masks es xs room
 unfolding batchRefusal
@@ -110,7 +93,8 @@ batchable P s masks es xs room e =
           };
       each = sym c;
       key = k;
-      coded = coding P two seven eight xs sixteen;
+      codec = record { modulus-ok = two; plaintext-ok = seven; small-ok = eight };
+      messages = sixteen;
     }
 
 -- a batch that is not cut is its count of rows
@@ -140,7 +124,7 @@ batch-phasable P s x room e =
 
 pub record BatchOpenable (P : LweParameters) (key words room : ℕ) : Type 0 where
   pub phases : BatchPhasable (P .modulus) (P .dimension .0) key words room
-  pub opens : Opening P
+  pub codec : Codable P
 
 pub batch-openable : (P : LweParameters) (s x : List ℕ) (room : ℕ) → batchOpenRefusal P s x room ≡ 0 → BatchOpenable P (length s) (length x) room
 unfolding batchOpenRefusal
@@ -150,5 +134,5 @@ batch-openable P s x room e =
     let c : room ≡ length x / (P .dimension .0 + 1) = length-ok _ _ eleven in
     record {
       phases = record { rows = rows-of (P .modulus) (P .dimension .0) (length s) (length x) room two k ten c; same = k; count = c };
-      opens = opening P two seven eight;
+      codec = record { modulus-ok = two; plaintext-ok = seven; small-ok = eight };
     }

@@ -15,7 +15,7 @@ use borrow.Author.Tests.{eq-eqb, ne-eqb, ltb-true, ltb-false}
 use Rattle.scheme.specs.Numbers.{pick, residue, Cong, tabulate}
 use Rattle.scheme.specs.Lwe.{signed}
 use Rattle.scheme.specs.Switch.{Below}
-use Rattle.scheme.specs.Checks.{codecRows, codecRefusal}
+use Rattle.scheme.specs.Checks.{messageFails}
 use Rattle.scheme.proofs.Residue.{residue-lt, cong-refl, cong-add, cong-of-eq, cong-trans, residue-cong}
 use Rattle.scheme.proofs.Lists.{length-tabulate, getD-tabulate}
 use Rattle.scheme.proofs.InPlace.{length-zip, zip-at}
@@ -24,15 +24,12 @@ use Rattle.scheme.proofs.Lwe.{stands}
 use Rattle.scheme.proofs.Public.{Upto, upTo, upto-start, upto-next}
 use Rattle.scheme.proofs.Checks.{passed, modulus-ok, length-ok, magnitudes-ok}
 use Rattle.primus_reduce.specs.Ring.{meant, sizeOf, modulo}
-use Rattle.primus_encoding.specs.Answers.{encodeRows}
 use Rattle.primus_lwe.specs.declared.parameter.LweEncryptionParameters.{LweEncryptionParameters}
 use Rattle.primus_lwe.specs.declared.parameter.LweParameters.{LweParameters}
 use Rattle.primus_reduce.specs.declared.modulus.Modulus.{Modulus}
-use Rattle.primus_lwe.specs.Answers.{Run}
+use Rattle.primus_lwe.specs.Answers.{Run, Codable}
 use Rattle.primus_lwe.specs.Public.{plusTimes, startWord, Public, generateRows, generateRefusal, publicRows, publicRefusal, publicMessageRows, publicMessageRefusal}
 use Rattle.primus_lwe.proofs.Laws.{modulo-stands}
-use Rattle.primus_lwe.proofs.Coded.{none-fails}
-use Rattle.scheme.specs.Checks.{firstOf}
 
 modulo-plain : (q : ℕ) (z : ℤ) → 0 < q → modulo q z ≡ residue z q
 modulo-plain q z h = rw (ne-eqb q 0 (λ f. omega arith))
@@ -171,13 +168,13 @@ publishable P key es rs p room e =
           };
     }
 
-pub record PublishableMessage (m : Modulus) (n t : ℕ) (key : List ℕ) (es rs : List ℤ) (x room : ℕ) : Type 0 where
-  pub plain : Publishable m n key es rs room
-  pub codec : codecRefusal t (meant m) ≡ 0
-  pub message : firstOf (encodeRows t m x) ≡ 0
+pub record PublishableMessage (P : LweParameters) (key : List ℕ) (es rs : List ℤ) (x room : ℕ) : Type 0 where
+  pub plain : Publishable (P .modulus) (P .dimension .0) key es rs room
+  pub codec : Codable P
+  pub message : messageFails (P .«plaintext_modulus») x ≡ false
 
 pub publishable-message : (P : LweParameters) (key : List ℕ) (es rs : List ℤ) (x room : ℕ) → publicMessageRefusal P key es rs x room ≡ 0
-    → PublishableMessage (P .modulus) (P .dimension .0) (P .«plaintext_modulus») key es rs x room
+    → PublishableMessage P key es rs x room
 unfolding publicMessageRefusal
 publishable-message P key es rs x room e =
     let (two, (six, (seven, (eight, (nine, (eleven, (errors, (twelve, (thirteen, (words, (fifteen, (coefficients, (sixteen, end))))))))))))) = passed (publicMessageRows P key es rs x room) tt e in
@@ -195,6 +192,6 @@ publishable-message P key es rs x room e =
                   small = magnitudes-ok 2 rs coefficients;
                 };
           };
-      codec = none-fails (codecRows (P .«plaintext_modulus») (meant (P .modulus))) (two, (seven, (eight, tt)));
-      message = none-fails (encodeRows (P .«plaintext_modulus») (P .modulus) x) (two, (seven, (eight, (sixteen, tt))));
+      codec = record { modulus-ok = two; plaintext-ok = seven; small-ok = eight };
+      message = sixteen;
     }

@@ -1,5 +1,5 @@
 -- What each call is judged by, and what it promises.
-use mathlib.Core.Bool.{Bool}
+use mathlib.Core.Bool.{Bool, false}
 use mathlib.Core.List.{List, [], _∷_, _++_}
 use mathlib.Core.Path.{_≡_}
 use Prim.Native.Nat.{ℕ, _+_, _*_, _<_, _≤_}
@@ -9,10 +9,10 @@ use lib.ListN.{length, getD, take, drop}
 use Rattle.scheme.specs.Numbers.{pick}
 use Rattle.scheme.specs.Lwe.{Key, secretOf, keyLength, encrypted, phaseOf}
 use Rattle.scheme.specs.Codec.{decode}
-use Rattle.scheme.specs.Checks.{Check, row, firstOf, codecRefusal, refusal, Writes, modulusFails, dimensionFails, plaintextFails, smallFails, lengthFails, boundFails, wordFails, wordsFail, keyFails, errorsFail, messageFails}
+use Rattle.scheme.specs.Checks.{Check, row, refusal, Writes, modulusFails, dimensionFails, plaintextFails, smallFails, lengthFails, boundFails, wordFails, wordsFail, keyFails, errorsFail, messageFails}
 use Rattle.primus_reduce.specs.Ring.{meant, sizeOf}
 use Rattle.primus_encoding.specs.declared.PlaintextEmbedding.{PlaintextEmbedding}
-use Rattle.primus_encoding.specs.Answers.{encodeWord, encodeRows, decodeRows}
+use Rattle.primus_encoding.specs.Answers.{encodeWord}
 use Rattle.checks.specs.Answers.{wordAnswer}
 use Rattle.checks.specs.declared.WordAnswer.{WordAnswer}
 use Rattle.primus_lwe.specs.declared.parameter.LweEncryptionParameters.{LweEncryptionParameters}
@@ -128,16 +128,11 @@ pub record Decrypts (P : LweParameters) (key : Key) (x : List ℕ) (answer : Wor
       answer ≡ wordAnswer (decryptRows P key x)
       (decode (sizeOf (P .modulus)) (P .«plaintext_modulus») (phaseOf (sizeOf (P .modulus)) (P .dimension .0) x (secretOf key)))
 
--- the codec refuses none of the messages xs
-pub record Coding (P : LweParameters) (xs : List ℕ) : Type 0 where
-  pub codec : codecRefusal (P .«plaintext_modulus») (meant (P .modulus)) ≡ 0
-  pub each : (i : ℕ) → i < length xs → firstOf (encodeRows (P .«plaintext_modulus») (P .modulus) (getD xs i 0)) ≡ 0
-
--- the codec refuses no phase
-pub record Opening (P : LweParameters) : Type 0 where
-  pub positive : 0 < sizeOf (P .modulus)
-  pub codec : codecRefusal (P .«plaintext_modulus») (meant (P .modulus)) ≡ 0
-  pub each : (p : ℕ) → p < sizeOf (P .modulus) → firstOf (decodeRows (P .«plaintext_modulus») (P .modulus) p) ≡ 0
+-- what a codec asks: 2, 7 and 8 do not apply
+pub record Codable (P : LweParameters) : Type 0 where
+  pub modulus-ok : modulusFails (meant (P .modulus)) ≡ false
+  pub plaintext-ok : plaintextFails (P .«plaintext_modulus») ≡ false
+  pub small-ok : smallFails (P .«plaintext_modulus») (meant (P .modulus)) ≡ false
 
 -- ---- runs of ciphertexts
 

@@ -18,8 +18,8 @@ use crate::parameter::LweEncryptionParameters;
 use crate::parameter::LweParameters;
 use crate::secret_key::KeyForm;
 use crate::secret_key::error_residue;
-use crate::secret_key::message;
 use primus_encoding::PlaintextEmbedding;
+use primus_encoding::encode_or_zero;
 use primus_lattice::dimension_refused;
 use primus_reduce::Modulus;
 
@@ -307,7 +307,7 @@ impl LwePublicKey {
             return r;
         }
         let modulus = params.modulus;
-        let plaintext = message::encoding(params.plaintext_modulus, modulus, message, embedding);
+        let plaintext = encode_or_zero(params.plaintext_modulus, modulus, message, embedding);
         write_public(out, key, errors, coefficients, plaintext, modulus);
         0
     }

@@ -1,7 +1,7 @@
 // Encryption and phases under a secret key: words below q, or signed numbers c that stand for c modulo q.
 mod borrowed;
 pub(crate) mod form;
-pub(crate) mod message;
+mod message;
 mod message_batch;
 mod message_packed;
 pub(crate) mod packed;

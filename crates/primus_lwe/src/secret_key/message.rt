@@ -1,11 +1,7 @@
 // Messages below t: encoded and encrypted, and decrypted again.
 ghost use mathlib.Core.Path.{_≡_};
-ghost use lib.ListN.{length};
 ghost use Rattle.scheme.specs.Lwe.{Words, Signed};
-ghost use Rattle.scheme.specs.Codec.{decode};
-ghost use Rattle.scheme.specs.Checks.{refusal, firstOf, codecRefusal};
-ghost use Rattle.primus_reduce.specs.Ring.{meant, sizeOf};
-ghost use Rattle.primus_encoding.specs.Answers.{encodeRows, encodeWord, decodeRows};
+ghost use Rattle.scheme.specs.Checks.{refusal};
 ghost use Rattle.primus_lwe.specs.Key.{keyOf};
 ghost use Rattle.primus_lwe.specs.Answers.{messageRows, EncryptsMessage, decryptRows, Decrypts};
 use crate::parameter::LweParameters;
@@ -15,50 +11,8 @@ use crate::secret_key::form::KeyForm;
 use checks::Values;
 use checks::WordAnswer;
 use primus_encoding::PlaintextEmbedding;
-use primus_encoding::RoundedCodec;
-use primus_encoding::RoundedCodecAnswer;
-use primus_reduce::Modulus;
-
-// encode(m). Its checks have passed, so the codec does not refuse.
-pub(crate) fn encoding(
-    plaintext_modulus: u32,
-    modulus: Modulus,
-    message: u32,
-    embedding: PlaintextEmbedding,
-) -> u32
-    requires { ⌜ (codecRefusal «plaintext_modulus» (meant modulus) ≡ 0) × (firstOf (encodeRows «plaintext_modulus» modulus message) ≡ 0) ⌝ }
-    ensures { λ r. ⌜ r ≡ encodeWord embedding (sizeOf modulus) «plaintext_modulus» message ⌝ }
-{
-    let tried = RoundedCodec::try_new(plaintext_modulus, modulus);
-    match tried {
-        RoundedCodecAnswer::Accepted(codec) => {
-            let word = codec.encode_value(message, embedding);
-            match word {
-                primus_encoding::WordAnswer::Word(p) => p,
-                primus_encoding::WordAnswer::Refused(r) => r,
-            }
-        }
-        RoundedCodecAnswer::Refused(r) => r,
-    }
-}
-
-// decode(p). Its checks have passed, so the codec does not refuse.
-pub(crate) fn decoding(plaintext_modulus: u32, modulus: Modulus, phase: u32) -> u32
-    requires { ⌜ (codecRefusal «plaintext_modulus» (meant modulus) ≡ 0) × (firstOf (decodeRows «plaintext_modulus» modulus phase) ≡ 0) ⌝ }
-    ensures { λ r. ⌜ r ≡ decode (sizeOf modulus) «plaintext_modulus» phase ⌝ }
-{
-    let tried = RoundedCodec::try_new(plaintext_modulus, modulus);
-    match tried {
-        RoundedCodecAnswer::Accepted(codec) => {
-            let word = codec.decode_value(phase);
-            match word {
-                primus_encoding::WordAnswer::Word(m) => m,
-                primus_encoding::WordAnswer::Refused(r) => r,
-            }
-        }
-        RoundedCodecAnswer::Refused(r) => r,
-    }
-}
+use primus_encoding::decode_or_zero;
+use primus_encoding::encode_or_zero;
 
 fn message_refusal(
     params: LweParameters,
@@ -119,7 +73,8 @@ fn encrypt_message(
         return r;
     }
     let modulus = params.modulus;
-    let plaintext = encoding(params.plaintext_modulus, modulus, message, embedding);
+    let t = params.plaintext_modulus;
+    let plaintext = encode_or_zero(t, modulus, message, embedding);
     borrowed::encrypt_to(
         out,
         form,
@@ -228,7 +183,7 @@ fn decrypt_under(
     let n = params.dimension.get();
     let modulus = params.modulus;
     let p = borrowed::phase(form, words, signed, ciphertext, n, modulus);
-    WordAnswer::Word(decoding(params.plaintext_modulus, modulus, p))
+    WordAnswer::Word(decode_or_zero(params.plaintext_modulus, modulus, p))
 }
 
 // decode of the phase. Refuses by 2, 6, 7, 8, 9, 10, 13, 14.

@@ -1,20 +1,22 @@
 // Messages and phases of a batch: ciphertexts of n + 1 words, one after the other.
 ghost use mathlib.Core.Path.{_≡_};
+ghost use mathlib.Core.Bool.{false};
 ghost use Prim.Native.Nat.{_+_, _*_, _/_};
 ghost use lib.ListN.{length};
 ghost use Rattle.scheme.specs.Numbers.{tabulate};
 ghost use Rattle.scheme.specs.Lwe.{words, signed, encryptedRows, phaseOf, rowOf};
 ghost use Rattle.scheme.specs.Codec.{decode};
-ghost use Rattle.scheme.specs.Checks.{Answers};
+ghost use Rattle.scheme.specs.Checks.{Answers, messagesFail};
 ghost use Rattle.primus_reduce.specs.Ring.{sizeOf};
-ghost use Rattle.primus_lwe.specs.Answers.{Run, Coding, Opening, encodings};
+ghost use Rattle.primus_lwe.specs.Answers.{Run, Codable, encodings};
 ghost use Rattle.primus_lwe.specs.Batch.{Rowwise, batchRefusal, batchPhaseRefusal, batchOpenRefusal};
 use crate::batch;
 use crate::parameter::LweEncryptionParameters;
 use crate::parameter::LweParameters;
 use crate::secret_key::form::KeyForm;
-use crate::secret_key::message;
 use primus_encoding::PlaintextEmbedding;
+use primus_encoding::decode_or_zero;
+use primus_encoding::encode_or_zero;
 use primus_lattice::dimension_refused;
 use primus_reduce::Modulus;
 
@@ -28,7 +30,7 @@ fn write_messages(
     errors: &[i32],
     messages: &[u32],
 )
-    requires { ⌜ Run (sizeOf (params .modulus)) (length (now secret)) (length (now masks)) (length (now errors)) (length (now out)) × (length (now messages) ≡ length (now errors)) × Coding params (now messages) ⌝ }
+    requires { ⌜ Run (sizeOf (params .modulus)) (length (now secret)) (length (now masks)) (length (now errors)) (length (now out)) × (length (now messages) ≡ length (now errors)) × Codable params × (messagesFail (params .«plaintext_modulus») (now messages) ≡ false) ⌝ }
     ensures { λ _. ⌜ now (out .exit) ≡ encryptedRows (sizeOf (params .modulus)) (length (now (secret .entry))) (length (now (errors .entry))) (now (masks .entry)) (words (now (secret .entry))) (signed (now (errors .entry))) (encodings embedding params (now (messages .entry))) ⌝ }
 {
     let modulus = params.modulus;
@@ -36,7 +38,7 @@ fn write_messages(
     let n = secret.len();
     let mut i = 0;
     while i < errors.len() {
-        let plaintext = message::encoding(t, modulus, messages[i], embedding);
+        let plaintext = encode_or_zero(t, modulus, messages[i], embedding);
         batch::encrypt_row(
             out,
             KeyForm::Words,
@@ -157,7 +159,7 @@ pub fn decrypt_phase_batch_to(
 
 // The message in each row.
 fn open_rows(out: &mut [u32], params: LweParameters, input: &[u32], secret: &[u32])
-    requires { ⌜ Rowwise (sizeOf (params .modulus)) (length (now secret)) (length (now input)) (length (now out)) × Opening params ⌝ }
+    requires { ⌜ Rowwise (sizeOf (params .modulus)) (length (now secret)) (length (now input)) (length (now out)) × Codable params ⌝ }
     ensures { λ _. ⌜ now (out .exit) ≡ tabulate (length (now (out .entry))) (λ i. decode (sizeOf (params .modulus)) (params .«plaintext_modulus») (phaseOf (sizeOf (params .modulus)) (length (now (secret .entry))) (rowOf (length (now (secret .entry))) (now (input .entry)) i) (words (now (secret .entry))))) ⌝ }
 {
     let modulus = params.modulus;
@@ -165,7 +167,7 @@ fn open_rows(out: &mut [u32], params: LweParameters, input: &[u32], secret: &[u3
     let mut i = 0;
     while i < out.len() {
         let phase = batch::row_phase(input, secret, i, modulus);
-        out[i] = message::decoding(t, modulus, phase);
+        out[i] = decode_or_zero(t, modulus, phase);
         i += 1;
     }
 }

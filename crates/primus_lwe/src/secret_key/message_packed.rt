@@ -1,18 +1,20 @@
 // Packed messages below t: encoded and encrypted, and opened again.
 ghost use mathlib.Core.Path.{_≡_};
+ghost use mathlib.Core.Bool.{false};
 ghost use Prim.Native.Nat.{_+_, _-_, _<_, _≤_};
 ghost use lib.ListN.{length, getD};
 ghost use Rattle.scheme.specs.Numbers.{tabulate};
 ghost use Rattle.scheme.specs.Lwe.{words, signed, packed, packedPhase};
 ghost use Rattle.scheme.specs.Codec.{decode};
-ghost use Rattle.scheme.specs.Checks.{Answers};
+ghost use Rattle.scheme.specs.Checks.{Answers, messagesFail};
 ghost use Rattle.primus_reduce.specs.Ring.{sizeOf};
-ghost use Rattle.primus_lwe.specs.Answers.{Coding, Opening, encodings};
+ghost use Rattle.primus_lwe.specs.Answers.{Codable, encodings};
 ghost use Rattle.primus_lwe.specs.Packed.{Packable, packedMessageRefusal, packedOpenRefusal};
 use crate::parameter::LweParameters;
-use crate::secret_key::message;
 use crate::secret_key::packed;
 use primus_encoding::PlaintextEmbedding;
+use primus_encoding::decode_or_zero;
+use primus_encoding::encode_or_zero;
 use primus_lattice::dimension_refused;
 use primus_lattice::packed_refused;
 
@@ -26,7 +28,7 @@ fn packed_message_word(
     messages: &[u32],
     k: usize,
 ) -> u32
-    requires { ⌜ Packable (sizeOf (params .modulus)) (length (now mask)) (length (now secret)) (length (now errors)) (length (now messages)) × Coding params (now messages) × (k < length (now mask) + length (now messages)) ⌝ }
+    requires { ⌜ Packable (sizeOf (params .modulus)) (length (now mask)) (length (now secret)) (length (now errors)) (length (now messages)) × Codable params × (messagesFail (params .«plaintext_modulus») (now messages) ≡ false) × (k < length (now mask) + length (now messages)) ⌝ }
     ensures { λ r. ⌜ r ≡ getD (packed (sizeOf (params .modulus)) (length (now (mask .entry))) (length (now (messages .entry))) (now (mask .entry)) (words (now (secret .entry))) (signed (now (errors .entry))) (encodings embedding params (now (messages .entry)))) k 0 ⌝ }
 {
     let n = mask.len();
@@ -35,7 +37,7 @@ fn packed_message_word(
     }
     let i = k - n;
     let modulus = params.modulus;
-    let plaintext = message::encoding(params.plaintext_modulus, modulus, messages[i], embedding);
+    let plaintext = encode_or_zero(params.plaintext_modulus, modulus, messages[i], embedding);
     packed::packed_body(mask, secret, errors, i, plaintext, modulus)
 }
 
@@ -48,7 +50,7 @@ fn write_packed_messages(
     errors: &[i32],
     messages: &[u32],
 )
-    requires { ⌜ Packable (sizeOf (params .modulus)) (length (now mask)) (length (now secret)) (length (now errors)) (length (now messages)) × Coding params (now messages) × (length (now out) ≡ length (now mask) + length (now messages)) ⌝ }
+    requires { ⌜ Packable (sizeOf (params .modulus)) (length (now mask)) (length (now secret)) (length (now errors)) (length (now messages)) × Codable params × (messagesFail (params .«plaintext_modulus») (now messages) ≡ false) × (length (now out) ≡ length (now mask) + length (now messages)) ⌝ }
     ensures { λ _. ⌜ now (out .exit) ≡ packed (sizeOf (params .modulus)) (length (now (mask .entry))) (length (now (messages .entry))) (now (mask .entry)) (words (now (secret .entry))) (signed (now (errors .entry))) (encodings embedding params (now (messages .entry))) ⌝ }
 {
     let mut k = 0;
@@ -137,7 +139,7 @@ fn open_bodies(
     secret: &[u32],
     dimension: usize,
 )
-    requires { ⌜ (length (now out) ≤ dimension) × (length (now input) ≡ dimension + length (now out)) × (length (now secret) ≡ dimension) × Opening params ⌝ }
+    requires { ⌜ (length (now out) ≤ dimension) × (length (now input) ≡ dimension + length (now out)) × (length (now secret) ≡ dimension) × Codable params ⌝ }
     ensures { λ _. ⌜ now (out .exit) ≡ tabulate (length (now (out .entry))) (λ i. decode (sizeOf (params .modulus)) (params .«plaintext_modulus») (packedPhase (sizeOf (params .modulus)) dimension (now (input .entry)) (words (now (secret .entry))) i)) ⌝ }
 {
     let modulus = params.modulus;
@@ -145,7 +147,7 @@ fn open_bodies(
     let mut i = 0;
     while i < out.len() {
         let phase = packed::body_phase(input, secret, i, dimension, modulus);
-        out[i] = message::decoding(t, modulus, phase);
+        out[i] = decode_or_zero(t, modulus, phase);
         i += 1;
     }
 }

@@ -34,4 +34,4 @@ returns-2 c =
     (r .phases .count) (r .phases .same))
 
 pub decrypt-message-batch-to-spec : {M : Type 1} → statement M
-decrypt-message-batch-to-spec = tie.close (tie.spec (λ c κs. tt) returns (λ c κs. let r = ready (c .before) in (r .phases .rows, r .opens)) (λ c. search needs) returns-2)
+decrypt-message-batch-to-spec = tie.close (tie.spec (λ c κs. tt) returns (λ c κs. let r = ready (c .before) in (r .phases .rows, r .codec)) (λ c. search needs) returns-2)

@@ -22,7 +22,7 @@ returns : tie.Need-returns
 returns c = refused (c .before .batch-refusal .ensures) (c .if1 .taken)
 
 write-messages-requires : tie.Need-write-messages-requires
-write-messages-requires c κs = let r = ready (c .before) in (r .run, r .each, r .coded)
+write-messages-requires c κs = let r = ready (c .before) in (r .run, r .each, r .codec, r .messages)
 
 returns-2 : tie.Need-returns-2
 returns-2 c =

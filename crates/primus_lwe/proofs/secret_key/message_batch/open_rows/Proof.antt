@@ -1,5 +1,5 @@
 use mathlib.Core.Path.{_≡_, sym, ap, _∙_}
-use Prim.Native.Nat.{_+_, _-_}
+use Prim.Native.Nat.{_<_, _+_, _-_}
 use native.Mathlib.Omega.{arith}
 use lib.ListN.{length}
 use Rattle.scheme.specs.Numbers.{tabulate}
@@ -8,8 +8,9 @@ use Rattle.scheme.specs.Codec.{decode}
 use Rattle.scheme.proofs.Lists.{length-tabulate, getD-tabulate}
 use Rattle.scheme.proofs.InPlace.{Filled, filled-start, filled-next, filled-end}
 use Rattle.scheme.proofs.Rows.{row-within}
-use Rattle.primus_reduce.specs.Ring.{sizeOf}
-use Rattle.primus_lwe.proofs.Coded.{phase-below}
+use Rattle.scheme.proofs.Checks.{modulus-ok}
+use Rattle.primus_reduce.specs.Ring.{meant, sizeOf}
+use Rattle.primus_lwe.proofs.Coded.{decoded-is, phase-below}
 use Rattle.primus_lwe.proofs.secret_key.message_batch.open_rows.Statement.{statement}
 use Rattle.primus_lwe.proofs.secret_key.message_batch.open_rows.Tie as tie
 
@@ -31,21 +32,15 @@ row-phase-requires c κs =
     let r = s .pre .0 in
     (r .positive, omega (arith, r .whole, row-within (length (a .secret .now) + 1) (length (a .out .now)) (l .loop .i) (omega arith)))
 
-decoding-requires : tie.Need-decoding-requires Inv-loop μ-loop
-decoding-requires c κs =
-    let l = c .before .before in
-    let s = l .before .before .before .before in
-    let a = s .args in
-    let o = s .pre .1 in
-    (o .codec, o .each _ (phase-below (sizeOf (a .params .modulus)) (length (a .secret .now)) (rowOf (length (a .secret .now)) (a .input .now) (l .loop .i)) (words (a .secret .now)) _ (o .positive) (c .row-phase .ensures)))
-
 loop-again : tie.Need-loop-again Inv-loop μ-loop
 loop-again c =
     let p = c .before in
     let l = p .before .before in
-    let a = l .before .before .before .before .args in
+    let s = l .before .before .before .before in
+    let a = s .args in
+    let positive : 0 < sizeOf (a .params .modulus) = omega (arith, modulus-ok 32 (meant (a .params .modulus)) (omega arith) (s .pre .1 .modulus-ok)) in
     filled-next _ _ _ _ (l .loop .inv) _ (omega arith)
-    (c .decoding .ensures
+    (decoded-is (a .params) (s .pre .1) _ (phase-below (sizeOf (a .params .modulus)) (length (a .secret .now)) (rowOf (length (a .secret .now)) (a .input .now) (l .loop .i)) (words (a .secret .now)) _ positive (p .row-phase .ensures)) (c .decode-or-zero .ensures)
     ∙ ap (decode (sizeOf (a .params .modulus)) (a .params .«plaintext_modulus»)) (p .row-phase .ensures)
     ∙ sym
     (getD-tabulate (length (a .out .now))
@@ -61,4 +56,4 @@ returns c = filled-end _ _ _ _ (c .before .loop .inv) (omega arith)
 pub open-rows-spec : {M : Type 1} → statement M
 open-rows-spec =
     tie.close
-    (tie.spec Inv-loop μ-loop loop-holds row-phase-requires decoding-requires (λ c. omega arith) (λ c. omega arith) (λ c. omega arith) (λ c. omega arith) loop-again same-length returns)
+    (tie.spec Inv-loop μ-loop loop-holds row-phase-requires (λ c κs. tt) (λ c. omega arith) (λ c. omega arith) (λ c. omega arith) (λ c. omega arith) loop-again same-length returns)

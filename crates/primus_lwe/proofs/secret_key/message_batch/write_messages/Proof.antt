@@ -9,6 +9,7 @@ use Rattle.scheme.proofs.Rows.{filling-room}
 use Rattle.primus_reduce.specs.Ring.{sizeOf}
 use Rattle.primus_encoding.specs.Answers.{encodeWord}
 use Rattle.primus_lwe.specs.Answers.{encodings}
+use Rattle.primus_lwe.proofs.Coded.{encoded-at}
 use Rattle.primus_lwe.proofs.Runs.{Rows, rows-start, rows-mask, rows-more, rows-done}
 use Rattle.primus_lwe.proofs.secret_key.message_batch.write_messages.Statement.{statement}
 use Rattle.primus_lwe.proofs.secret_key.message_batch.write_messages.Tie as tie
@@ -29,12 +30,6 @@ loop-holds c =
     let a = s .args in
     rows-start (sizeOf (a .params .modulus)) (length (a .secret .now)) (a .masks .now) (words (a .secret .now)) (signed (a .errors .now)) (encodings (a .embedding) (a .params) (a .messages .now)) (length (a .errors .now)) (a .out .now) (s .pre .0)
 
-encoding-requires : tie.Need-encoding-requires Inv-loop μ-loop
-encoding-requires c κs =
-    let t = c .before in
-    let s = begun (t .before) in
-    (s .pre .2 .codec, s .pre .2 .each _ (omega (arith, s .pre .1)))
-
 encrypt-row-requires : tie.Need-encrypt-row-requires Inv-loop μ-loop
 encrypt-row-requires c κs =
     let t = c .before .before .before .before in
@@ -52,8 +47,9 @@ loop-again c =
     let e = w .before .before .before in
     let t = e .before .before in
     let l = t .before in
-    let a = begun l .args in
-    rows-more (sizeOf (a .params .modulus)) (length (a .secret .now)) (a .masks .now) (words (a .secret .now)) (signed (a .errors .now)) (encodings (a .embedding) (a .params) (a .messages .now)) (length (a .errors .now)) (a .out .now) (l .loop .out) (l .loop .i) (l .loop .inv) (t .loop-test .taken) _ (ap pos (e .encoding .ensures)) _ (w .encrypt-row .ensures)
+    let s = begun l in
+    let a = s .args in
+    rows-more (sizeOf (a .params .modulus)) (length (a .secret .now)) (a .masks .now) (words (a .secret .now)) (signed (a .errors .now)) (encodings (a .embedding) (a .params) (a .messages .now)) (length (a .errors .now)) (a .out .now) (l .loop .out) (l .loop .i) (l .loop .inv) (t .loop-test .taken) _ (encoded-at (a .params) (s .pre .2) (a .embedding) (a .messages .now) (l .loop .i) (s .pre .3) (omega (arith, s .pre .1)) (e .encode-or-zero .ensures)) _ (w .encrypt-row .ensures)
 
 returns : tie.Need-returns Inv-loop μ-loop
 returns c =
@@ -62,4 +58,4 @@ returns c =
     rows-done (sizeOf (a .params .modulus)) (length (a .secret .now)) (a .masks .now) (words (a .secret .now)) (signed (a .errors .now)) (encodings (a .embedding) (a .params) (a .messages .now)) (length (a .errors .now)) (a .out .now) (l .loop .out) (l .loop .i) (l .loop .inv) (c .loop-test .left)
 
 pub write-messages-spec : {M : Type 1} → statement M
-write-messages-spec = tie.close (tie.spec Inv-loop μ-loop loop-holds (λ c. omega (arith, begun (c .before) .pre .1)) (λ c. omega (arith, begun (c .before .before) .pre .1)) encoding-requires (λ c. search needs) encrypt-row-requires (λ c. omega arith) (λ c. omega arith) loop-again (λ c. c .before .loop .inv .same) returns)
+write-messages-spec = tie.close (tie.spec Inv-loop μ-loop loop-holds (λ c. omega (arith, begun (c .before) .pre .1)) (λ c. omega (arith, begun (c .before .before) .pre .1)) (λ c κs. tt) (λ c. search needs) encrypt-row-requires (λ c. omega arith) (λ c. omega arith) loop-again (λ c. c .before .loop .inv .same) returns)

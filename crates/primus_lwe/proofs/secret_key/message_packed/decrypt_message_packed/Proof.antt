@@ -27,7 +27,7 @@ open-bodies-requires : tie.Need-open-bodies-requires
 open-bodies-requires c κs =
     let g = c .before .get .ensures in
     let r = ready (c .before .before) in
-    (omega (arith, r .phases .bodies), omega (arith, r .phases .whole), r .phases .key ∙ sym g, r .opens)
+    (omega (arith, r .phases .bodies), omega (arith, r .phases .whole), r .phases .key ∙ sym g, r .codec)
 
 returns-2 : tie.Need-returns-2
 returns-2 c =

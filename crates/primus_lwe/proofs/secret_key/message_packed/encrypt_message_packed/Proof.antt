@@ -21,7 +21,7 @@ returns : tie.Need-returns
 returns c = refused (c .before .packed-message-refusal .ensures) (c .if1 .taken)
 
 write-packed-messages-requires : tie.Need-write-packed-messages-requires
-write-packed-messages-requires c κs = let r = ready (c .before) in (r .able, r .coded, r .fits)
+write-packed-messages-requires c κs = let r = ready (c .before) in (r .able, r .codec, r .messages, r .fits)
 
 returns-2 : tie.Need-returns-2
 returns-2 c =

@@ -22,12 +22,12 @@ loop-holds c =
     let s = c .before .before .before .before in
     let a = s .args in
     filled-start _ _
-    (packed-length (sizeOf (a .params .modulus)) (length (a .messages .now)) (a .mask .now) (words (a .secret .now)) (signed (a .errors .now)) (encodings (a .embedding) (a .params) (a .messages .now)) 0 ∙ sym (s .pre .2))
+    (packed-length (sizeOf (a .params .modulus)) (length (a .messages .now)) (a .mask .now) (words (a .secret .now)) (signed (a .errors .now)) (encodings (a .embedding) (a .params) (a .messages .now)) 0 ∙ sym (s .pre .3))
 
 packed-message-word-requires : tie.Need-packed-message-word-requires Inv-loop μ-loop
 packed-message-word-requires c κs =
     let s = c .before .before .before .before .before .before in
-    (s .pre .0, s .pre .1, omega (arith, s .pre .2))
+    (s .pre .0, s .pre .1, s .pre .2, omega (arith, s .pre .3))
 
 loop-again : tie.Need-loop-again Inv-loop μ-loop
 loop-again c =
