@@ -2,7 +2,7 @@ use mathlib.Core.Path.{_≡_, refl, ap, ap₂, _∙_}
 use mathlib.Core.List.{[], _∷_}
 use Prim.Native.Nat.{ℕ, _%_, _^_}
 use borrow.Author.Needs.{needs}
-use Rattle.primus_decompose.specs.declared.parameters.DecompositionLevelCount.{DecompositionLevelCount}
+use Rattle.gadget_parameters.specs.declared.DecompositionLevelCount.{DecompositionLevelCount}
 use Rattle.saigagalena.proofs.basis.write_constants.Statement.{statement}
 use Rattle.saigagalena.proofs.basis.write_constants.Tie as tie
 

@@ -14,7 +14,8 @@ use Rattle.scheme.proofs.Order.{Sized, passed, only, early, refused}
 use Rattle.primus_decompose.specs.declared.error.ReadingAnswer.{ReadingAnswer}
 use Rattle.primus_decompose.specs.declared.error.ReadingAnswer.the-variants.{Read, Refused}
 use Rattle.primus_decompose.specs.declared.primitive.basis.ApproxSignedBasis.{ApproxSignedBasis}
-use Rattle.primus_decompose.specs.Answers.{basis, wordRows, readingOf, readingAnswer}
+use Rattle.gadget_constants.specs.Word.{readingOf}
+use Rattle.primus_decompose.specs.Answers.{basis, wordRows, readingAnswer}
 use Rattle.saigagalena.specs.Bases.{sized, outputRows, readingRows, Wrote, WritesReading}
 use Rattle.saigagalena.proofs.basis.write_reading.Statement.{statement}
 use Rattle.saigagalena.proofs.basis.write_reading.Tie as tie
