@@ -1,6 +1,6 @@
 -- What a refusal by the order says.
 --     in-order      a refusal applies, and no number before it in the order does
---     passed        without a refusal no number applies
+--     passed        without a refusal no number applies; none-holds: none of the conditions holds
 --     early, late   sizes are judged before values: the first number of the sizes, or where there is none that of the values
 --     refused, done the two ways through a call with a lent buffer
 -- Assumes nothing.
@@ -198,3 +198,32 @@ passed-part rows more e = zero order (none (applies (rows ++ more)) order tt e)
     zero : (ks : List ℕ) → None (applies (rows ++ more)) ks → firstIn (applies rows) ks ≡ 0
     zero [] p = refl
     zero (k ∷ ks) p = rw (applies-part rows more k (p .0)) (zero ks (p .1))
+
+-- ---- no refusal, so no condition holds
+
+abbrev pub NoneHolds : List Check → Type 0
+NoneHolds [] = Unit {0}
+NoneHolds (c ∷ cs) = (c .fails ≡ false) × NoneHolds cs
+
+-- each number of the rows stands in the order
+abbrev pub listed : List Check → Bool
+listed [] = true
+listed (c ∷ cs) = has (c .number) order && listed cs
+
+pub none-holds : (rows : List Check) → T (listed rows) → refusal rows ≡ 0 → NoneHolds rows
+none-holds rows t e = each rows t (passed rows e)
+  where
+    head : (n : ℕ) (b a : Bool) → pick (eqb n n) (b || a) b ≡ false → a ≡ false
+    head n b a e = neither a b (rw (eq-eqb n n refl) at e) .0
+
+    tail : (d b a : Bool) → pick d (b || a) b ≡ false → b ≡ false
+    tail true b a e = neither a b e .1
+    tail false b a e = e
+
+    each : (rows : List Check) → T (listed rows) → ((k : ℕ) → T (has k order) → applies rows k ≡ false) → NoneHolds rows
+    each [] t h = tt
+    each (c ∷ cs) t h =
+        let y = and-yes (has (c .number) order) (listed cs) t in (
+          head (c .number) (applies cs (c .number)) (c .fails) (h (c .number) (y .0)),
+          each cs (y .1) (λ k l. tail (eqb (c .number) k) (applies cs k) (c .fails) (h k l)),
+        )
