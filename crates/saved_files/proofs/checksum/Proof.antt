@@ -2,8 +2,8 @@ use Prim.Native.Nat.{_≤_, _-_}
 use native.Mathlib.Omega.{arith}
 use lib.ListN.{length}
 use borrow.Author.Needs.{needs}
-use Rattle.release_files.proofs.files.checksum.Statement.{statement}
-use Rattle.release_files.proofs.files.checksum.Tie as tie
+use Rattle.saved_files.proofs.checksum.Statement.{statement}
+use Rattle.saved_files.proofs.checksum.Tie as tie
 
 abbrev Inv-loop : tie.InvT-loop
 Inv-loop bytes sum₀ i₀ sum i = (i ≤ length bytes)

@@ -3,8 +3,8 @@ use Prim.Native.Nat.{_≤_, _-_}
 use native.Mathlib.Omega.{arith}
 use lib.ListN.{length, length-set}
 use borrow.Author.Needs.{needs}
-use Rattle.release_files.proofs.files.numbers_to.Statement.{statement}
-use Rattle.release_files.proofs.files.numbers_to.Tie as tie
+use Rattle.saved_files.proofs.numbers_to.Statement.{statement}
+use Rattle.saved_files.proofs.numbers_to.Tie as tie
 
 abbrev Inv-loop : tie.InvT-loop
 Inv-loop bytes numbers₀ i₀ numbers i = (i ≤ length numbers₀) × (length numbers ≡ length numbers₀)
