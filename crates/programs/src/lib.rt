@@ -1,7 +1,8 @@
-// What the programs share: a file read whole, lines written, words compared.
+// What the programs share: a file read whole, a modulus of a record, lines written, words compared.
 ghost use Prim.Native.Nat.{_≤_};
 ghost use lib.ListN.{length};
 use libc::STDOUT_FILENO;
+use primus_reduce::Modulus;
 
 pub fn write(text: &[u8]) {
     io::write_all(STDOUT_FILENO, text);
@@ -33,6 +34,14 @@ pub fn read(path: &[u8], bytes: &mut [u8]) -> usize
         return 0;
     }
     len
+}
+
+// A modulus of a record: a byte that is 0 for the native one, then its number.
+pub fn modulus_at(record: &[u8], at: usize) -> Modulus {
+    if little_endian::u8_at(record, at) == 0 {
+        return Modulus::Native;
+    }
+    Modulus::Explicit(little_endian::u32_at(record, std::num::wrapping_add_usize(at, 1)))
 }
 
 // The first `count` words are the same; there are that many in both.
