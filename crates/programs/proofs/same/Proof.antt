@@ -5,14 +5,10 @@ use lib.ListN.{length}
 use Rattle.programs.proofs.same.Statement.{statement}
 use Rattle.programs.proofs.same.Tie as tie
 
-abbrev Inv-loop : tie.InvT-loop
-Inv-loop x y count i₀ i = (i ≤ count) × (count ≤ length x) × (count ≤ length y)
-
-abbrev μ-loop : tie.MeasureT-loop
-μ-loop x y count i₀ i = count - i
-
 pub same-spec : {M : Type 1} → statement M
 same-spec =
     tie.close
-    (tie.spec Inv-loop μ-loop (λ c. tt) (λ c. search needs) (λ c. search needs) (λ c. search needs) (λ c. search needs) (λ c. search needs)
-    (λ c. tt) (λ c. search needs) (λ c. search needs) (λ c. search needs) (λ c. tt))
+    (tie.spec (λ x y count i₀ i. (i ≤ count) × (count ≤ length x) × (count ≤ length y))
+    (λ x y count i₀ i. count - i) (λ c. tt) (λ c. search needs) (λ c. search needs) (λ c. search needs)
+    (λ c. search needs) (λ c. search needs) (λ c. tt) (λ c. search needs) (λ c. search needs)
+    (λ c. search needs) (λ c. tt))

@@ -5,13 +5,9 @@ use borrow.Author.Needs.{needs}
 use Rattle.saved_files.proofs.checksum.Statement.{statement}
 use Rattle.saved_files.proofs.checksum.Tie as tie
 
-abbrev Inv-loop : tie.InvT-loop
-Inv-loop bytes sum₀ i₀ sum i = (i ≤ length bytes)
-
-abbrev μ-loop : tie.MeasureT-loop
-μ-loop bytes sum₀ i₀ sum i = length bytes - i
-
 pub checksum-spec : {M : Type 1} → statement M
 checksum-spec =
     tie.close
-    (tie.spec Inv-loop μ-loop (λ c. omega arith) (λ c. omega arith) (λ c κs. tt) (λ c. omega arith) (λ c. omega arith) (λ c. search needs) (λ c. tt))
+    (tie.spec (λ bytes sum₀ i₀ sum i. i ≤ length bytes) (λ bytes sum₀ i₀ sum i. length bytes - i)
+    (λ c. omega arith) (λ c. omega arith) (λ c κs. tt) (λ c. omega arith) (λ c. omega arith) (λ c. search needs)
+    (λ c. tt))
