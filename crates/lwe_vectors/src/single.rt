@@ -21,7 +21,8 @@ fn message(answer: MessageAnswer) -> Said {
     }
 }
 
-// Under words a or signed numbers d: mask b, errors e, the plaintext or the message, the ciphertext in out.
+// Under words a or signed numbers d: mask b, errors e, the plaintext or the message, the ciphertext in out. A public key from a
+// secret: masks b, errors e. Under the public key a: errors e, coefficients d.
 pub(crate) fn encrypt(h: Head, a: &[u32], b: &[u32], d: &[i32], e: &[i32], out: &mut [u32]) -> u32 {
     let p = parameters::encryption(h);
     let params = parameters::message(h);
@@ -32,7 +33,11 @@ pub(crate) fn encrypt(h: Head, a: &[u32], b: &[u32], d: &[i32], e: &[i32], out: 
         8 => primus_lwe::encrypt_encoded_to(p, a, b, e, x, out),
         9 => primus_lwe::encrypt_encoded_signed_to(p, d, b, e, x, out),
         12 => primus_lwe::encrypt_message_to(params, embedding, a, b, e, x, out),
-        _ => primus_lwe::encrypt_message_signed_to(params, embedding, d, b, e, x, out),
+        13 => primus_lwe::encrypt_message_signed_to(params, embedding, d, b, e, x, out),
+        23 => LwePublicKey::generate(p, a, b, e, out),
+        24 => LwePublicKey::generate_signed(p, d, b, e, out),
+        25 => LwePublicKey::encrypt_encoded_to(p, a, e, d, x, out),
+        _ => LwePublicKey::encrypt_message_to(params, embedding, a, e, d, x, out),
     }
 }
 
@@ -46,20 +51,5 @@ pub(crate) fn decrypt(h: Head, a: &[u32], b: &[u32], d: &[i32]) -> Said {
         11 => phase(primus_lwe::decrypt_phase_signed(p, d, b)),
         14 => message(primus_lwe::decrypt_message(params, a, b)),
         _ => message(primus_lwe::decrypt_message_signed(params, d, b)),
-    }
-}
-
-// A key from a secret: words a or signed numbers d, masks b, errors e. An encryption: the key a, errors e, coefficients d.
-pub(crate) fn public(h: Head, a: &[u32], b: &[u32], d: &[i32], e: &[i32], out: &mut [u32]) -> u32 {
-    let p = parameters::encryption(h);
-    let params = parameters::message(h);
-    let embedding = h.embedding;
-    let x = h.value;
-    let kind = h.kind;
-    match kind {
-        23 => LwePublicKey::generate(p, a, b, e, out),
-        24 => LwePublicKey::generate_signed(p, d, b, e, out),
-        25 => LwePublicKey::encrypt_encoded_to(p, a, e, d, x, out),
-        _ => LwePublicKey::encrypt_message_to(params, embedding, a, e, d, x, out),
     }
 }

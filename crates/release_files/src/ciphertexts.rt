@@ -39,13 +39,7 @@ fn open(h: Head, secret: &[u32], words: &[u32], out: &mut [u32]) -> u32 {
 fn open_in(h: Head, n: usize, secret: &[u32], words: &[u32], out: &mut [u32]) -> u32 {
     let len = h.words as usize;
     let count = h.count as usize;
-    if secret.len() < n {
-        return DIFFERS;
-    }
-    if words.len() < len {
-        return DIFFERS;
-    }
-    if out.len() < count {
+    if secret.len() < n || words.len() < len || out.len() < count {
         return DIFFERS;
     }
     open(h, &secret[0..n], &words[0..len], &mut out[0..count])

@@ -83,13 +83,7 @@ fn public_refusal(h: Head, secret: &[u32], key: &[u32], out: &mut [u32]) -> u32 
     let n = h.n;
     let len = h.words as usize;
     let modulus = h.modulus;
-    if secret.len() < n {
-        return DIFFERS;
-    }
-    if key.len() < len {
-        return DIFFERS;
-    }
-    if out.len() < n {
+    if secret.len() < n || key.len() < len || out.len() < n {
         return DIFFERS;
     }
     let r = phases(h, &secret[0..n], &key[0..len], &mut out[0..n]);
@@ -137,13 +131,7 @@ fn switch_refusal(
     let a = h.words as usize;
     let b = from.words as usize;
     let c = to.words as usize;
-    if key.len() < a {
-        return DIFFERS;
-    }
-    if input.len() < b {
-        return DIFFERS;
-    }
-    if out.len() < c {
+    if key.len() < a || input.len() < b || out.len() < c {
         return DIFFERS;
     }
     switch(h, &key[0..a], &input[0..b], &mut out[0..c])
