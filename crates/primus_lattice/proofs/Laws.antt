@@ -13,20 +13,14 @@ use borrow.Author.Tests.{ltb-true, ltb-false, leb-false, lt-ltb, le-ltb, le-leb,
 use Rattle.scheme.specs.Numbers.{pick, residue}
 use Rattle.scheme.specs.Modulus as S
 use Rattle.scheme.specs.Tally.{addTally, tallyFails}
-use Rattle.scheme.specs.Checks.{firstOf, refusal, lengthFails}
-use Rattle.scheme.proofs.Checks.{passed, modulus-ok, length-ok}
-use Rattle.scheme.proofs.Order.{passed as passing, neither}
+use Rattle.scheme.specs.Checks.{refusal, lengthFails, packedFails}
+use Rattle.scheme.proofs.Checks.{modulus-ok, length-ok, packed-ok}
+use Rattle.scheme.proofs.Order.{passed, neither}
 use Rattle.primus_reduce.specs.Ring.{meant, sizeOf, modulo}
 use Rattle.primus_reduce.specs.declared.modulus.Modulus.{Modulus}
 use Rattle.primus_lattice.specs.declared.tag.Tally.{Tally}
 use Rattle.primus_lattice.specs.declared.tag.Tally.the-variants.{Absent, Present}
-use Rattle.primus_lattice.specs.Answers.{meantTally, heldTally, cap, bodyFails, addRows, extractRows}
-
-pub picked : {A : Type 0} (b : Bool) (x y : A) → b ≡ true → x ≡ pick b x y
-picked b x y e = rw e
-
-pub passed-over : {A : Type 0} (b : Bool) (x y : A) → b ≡ false → y ≡ pick b x y
-passed-over b x y e = rw e
+use Rattle.primus_lattice.specs.Answers.{meantTally, heldTally, cap, tagRows, bodyFails, addRows, extractRows}
 
 -- ---- tallies
 
@@ -91,7 +85,7 @@ less-is q a r h f = f ∙ rw (ne-eqb q 0 (λ z. omega arith)) (ap (λ z. residue
 
 pub addable : (m : Modulus) (n : ℕ) (x y : List ℕ) → refusal (addRows m n x y) ≡ 0 → (0 < sizeOf m) × (length x ≡ length y)
 addable m n x y e =
-    let no = passing (addRows m n x y) e in
+    let no = passed (addRows m n x y) e in
     let lengths = neither (lengthFails (length x) (n + 1)) (lengthFails (length y) (n + 1)) (no 10 tt) in
     (omega (arith, modulus-ok 32 (meant m) (omega arith) (no 2 tt)), length-ok _ _ (lengths .0) ∙ sym (length-ok _ _ (lengths .1)))
 
@@ -103,18 +97,17 @@ pub record Extractable (q n i len room : ℕ) : Type 0 where
   pub within : n + i < len
   pub fits : room ≡ n + 1
 
-pub extractable : (m : Modulus) (n : ℕ) (x : List ℕ) (i room : ℕ) → firstOf (extractRows m n x i room) ≡ 0 → Extractable (sizeOf m) n i (length x) room
+pub extractable : (m : Modulus) (n : ℕ) (x : List ℕ) (i room : ℕ) → refusal (extractRows m n x i room) ≡ 0 → Extractable (sizeOf m) n i (length x) room
 extractable m n x i room e =
-    let (two, (six, (ten, (body, (eleven, rest))))) = passed (extractRows m n x i room) tt e in
-    let l : n ≤ length x = ltb-false (length x) n (or-left (ltb (length x) n) (ltb (n + n) (length x)) ten) in
-    let u : length x ≤ n + n = ltb-false (n + n) (length x) (or-right (ltb (length x) n) (ltb (n + n) (length x)) ten) in
-    let b : i < length x - n = leb-false (length x - n) i body in
-    record { positive = omega (arith, modulus-ok 32 (meant m) (omega arith) two); body = omega arith; within = omega arith; fits = length-ok _ _ eleven }
-  where
-    or-left : (a b : Bool) → (a || b) ≡ false → a ≡ false
-    or-left true b e = e
-    or-left false b e = refl
+    let no = passed (extractRows m n x i room) e in
+    let ten = neither (packedFails (length x) n) (bodyFails (length x) n i) (no 10 tt) in
+    let l : (n ≤ length x) × (length x ≤ n + n) = packed-ok (length x) n (ten .0) in
+    let b : i < length x - n = leb-false (length x - n) i (ten .1) in
+    record { positive = omega (arith, modulus-ok 32 (meant m) (omega arith) (no 2 tt)); body = omega arith; within = omega arith; fits = length-ok _ _ (no 11 tt) }
 
-    or-right : (a b : Bool) → (a || b) ≡ false → b ≡ false
-    or-right true b e = let z : true ≡ false = e in cc
-    or-right false b e = e
+-- ---- what the checks of two tallies leave
+
+pub summable : (x y : Tally) → refusal (tagRows x y) ≡ 0 → tallyFails cap (addTally (meantTally x) (meantTally y)) ≡ false
+summable x y e =
+    neither (tallyFails cap (meantTally y)) (tallyFails cap (addTally (meantTally x) (meantTally y)))
+    (neither (tallyFails cap (meantTally x)) _ (passed (tagRows x y) e 17 tt) .1) .1

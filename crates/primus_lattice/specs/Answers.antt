@@ -6,8 +6,9 @@ use lib.Dec.{eqb, leb}
 use lib.ListN.{length}
 use Rattle.scheme.specs.Numbers.{pick}
 use Rattle.scheme.specs.Tally as S
-use Rattle.scheme.specs.Lwe.{addWords}
-use Rattle.scheme.specs.Checks.{Writes, refusal, Check, row, firstOf, modulusFails, dimensionFails, codecRows, lengthFails, packedFails, wordsFail}
+use Rattle.scheme.specs.Lwe.{addWords, extracted}
+use Rattle.scheme.specs.Checks.{Check, row, refusal, Writes, codecRows}
+use Rattle.scheme.specs.Checks.{modulusFails, dimensionFails, lengthFails, packedFails, wordsFail}
 use Rattle.primus_reduce.specs.Ring.{meant, sizeOf}
 use Rattle.primus_reduce.specs.declared.modulus.Modulus.{Modulus}
 use Rattle.primus_lattice.specs.declared.dimension.LweDimension.{LweDimension}
@@ -20,9 +21,13 @@ use Rattle.primus_lattice.specs.declared.tag.LweTagAnswer.the-variants a
 use Rattle.primus_lattice.specs.declared.tag.MarkAnswer.{MarkAnswer}
 use Rattle.primus_lattice.specs.declared.tag.MarkAnswer.the-variants as M
 
--- a dimension, or refusal 6
+-- a dimension judges 6
+abbrev pub dimensionRows : ℕ → List Check
+dimensionRows n = row (dimensionFails n) 6 ∷ []
+
 abbrev pub dimensionAnswer : ℕ → LweDimensionAnswer
-dimensionAnswer n = pick (dimensionFails n) (D.Refused 6) (D.Accepted (record { 0 = n }))
+dimensionAnswer n =
+    pick (eqb (refusal (dimensionRows n)) 0) (D.Accepted (record { 0 = n })) (D.Refused (refusal (dimensionRows n)))
 
 -- the tally of document 01, and the value that holds one
 abbrev pub meantTally : Tally → S.Tally
@@ -58,14 +63,19 @@ tagRows x y =
 
 abbrev pub tagAnswer : Tally → Tally → LweTagAnswer
 tagAnswer x y =
-    pick (eqb (firstOf (tagRows x y)) 0) (T.Tag (record { tally = heldTally (S.addTally (meantTally x) (meantTally y)) })) (T.Refused (firstOf (tagRows x y)))
+    pick (eqb (refusal (tagRows x y)) 0)
+    (T.Tag (record { tally = heldTally (S.addTally (meantTally x) (meantTally y)) }))
+    (T.Refused (refusal (tagRows x y)))
 
 -- the mark judges 2, 7, 8 and 17
 abbrev pub markRows : Tally → Modulus → ℕ → List Check
 markRows x m t = codecRows t (meant m) ++ row (S.tallyFails cap (meantTally x)) 17 ∷ []
 
 abbrev pub markAnswer : Tally → Modulus → ℕ → MarkAnswer
-markAnswer x m t = pick (eqb (firstOf (markRows x m t)) 0) (M.Mark (S.good (sizeOf m) t (meantTally x))) (M.Refused (firstOf (markRows x m t)))
+markAnswer x m t =
+    pick (eqb (refusal (markRows x m t)) 0)
+    (M.Mark (S.good (sizeOf m) t (meantTally x)))
+    (M.Refused (refusal (markRows x m t)))
 
 -- a sum judges 2, 6, 10 and 14
 abbrev pub addRows : Modulus → ℕ → List ℕ → List ℕ → List Check
@@ -96,3 +106,8 @@ extractRows m n x i room =
     ∷ row (lengthFails room (n + 1)) 11
     ∷ row (wordsFail (sizeOf m) x) 14
     ∷ []
+
+-- the sample of body i, as a ciphertext of one message
+pub record Extracts (m : Modulus) (n : LweDimension) (x : List ℕ) (i : ℕ) (before : List ℕ) (r : ℕ) (after : List ℕ)
+    : Type 0 where
+  pub writes : Writes (extractRows m (n .0) x i (length before)) (extracted (sizeOf m) (n .0) x i) before r after

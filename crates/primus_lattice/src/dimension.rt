@@ -4,6 +4,7 @@ ghost use mathlib.Core.Bool.{_||_};
 ghost use Prim.Native.Nat.{_+_};
 ghost use Rattle.scheme.specs.Checks.{dimensionFails, lengthFails};
 ghost use Rattle.primus_lattice.specs.Answers.{dimensionAnswer};
+use checks::Sizes;
 
 // n, the number of mask words.
 pub struct LweDimension(usize);
@@ -26,12 +27,15 @@ impl LweDimension {
 
     pub const MAX: usize = 2048;
 
-    // Refuses by 6.
+    // The dimension n. Refuses by 6.
     pub fn try_new(dimension: usize) -> LweDimensionAnswer
         ensures { λ r. ⌜ r ≡ dimensionAnswer dimension ⌝ }
     {
-        if dimension_refused(dimension) {
-            return LweDimensionAnswer::Refused(6);
+        let mut s = Sizes::NONE;
+        s.dimension = dimension_refused(dimension);
+        let r = s.first();
+        if r != 0 {
+            return LweDimensionAnswer::Refused(r);
         }
         LweDimensionAnswer::Accepted(LweDimension(dimension))
     }

@@ -1,4 +1,4 @@
-// LWE ciphertexts over words of 32 bits: the dimension, what a ciphertext carries beside its words, sums, and packed ciphertexts.
+// LWE ciphertexts over words of 32 bits: the dimension, the tag beside the words, sums, and packed ciphertexts.
 mod dimension;
 mod multiple_message;
 mod single_message;

@@ -1,13 +1,16 @@
-// Packed ciphertexts: n shared mask words, then at most n bodies. Body i uses the mask rotated right by i, its first i words negated.
+// Packed ciphertexts: n shared mask words, then at most n bodies.
+// Body i uses the mask rotated right by i, its first i words negated.
 ghost use mathlib.Core.Path.{_≡_};
+ghost use mathlib.Core.Bool.{_||_};
 ghost use Prim.Native.Nat.{_+_, _-_, _<_, _≤_};
 ghost use lib.ListN.{length, getD};
 ghost use Rattle.scheme.specs.Lwe.{extracted};
-ghost use Rattle.scheme.specs.Checks.{firstOf, packedFails, Answers};
+ghost use Rattle.scheme.specs.Checks.{packedFails, refusal};
 ghost use Rattle.primus_reduce.specs.Ring.{sizeOf};
-ghost use Rattle.primus_lattice.specs.Answers.{bodyFails, extractRows};
+ghost use Rattle.primus_lattice.specs.Answers.{bodyFails, extractRows, Extracts};
 use crate::dimension::LweDimension;
-use crate::dimension::dimension_refused;
+use checks::Sizes;
+use checks::Values;
 use primus_reduce::Modulus;
 
 // 10: fewer than n words, or more than n bodies. No sum: it could overflow.
@@ -22,6 +25,37 @@ fn body_missing(len: usize, dimension: usize, index: usize) -> bool
     ensures { λ r. ⌜ r ≡ bodyFails len dimension index ⌝ }
 {
     len < dimension || len - dimension <= index
+}
+
+// 10, both.
+fn sample_refused(dimension: LweDimension, len: usize, index: usize) -> bool
+    ensures { λ r. ⌜ r ≡ (bodyFails len (dimension .0) index || packedFails len (dimension .0)) ⌝ }
+{
+    let n = dimension.get();
+    body_missing(len, n, index) | packed_refused(len, n)
+}
+
+fn extract_refusal(
+    modulus: Modulus,
+    dimension: LweDimension,
+    input: &[u32],
+    index: usize,
+    room: usize,
+) -> u32
+    ensures { λ r. ⌜ r ≡ refusal (extractRows modulus (dimension .0) (now (input .entry)) index room) ⌝ }
+{
+    let mut s = Sizes::NONE;
+    s.modulus = checks::modulus_refused(modulus);
+    s.dimension = dimension.refused();
+    s.input = sample_refused(dimension, input.len(), index);
+    s.output = dimension.ciphertext_differs(room);
+    let r = s.first();
+    if r != 0 {
+        return r;
+    }
+    let mut v = Values::NONE;
+    v.word = checks::words_refused(modulus, input);
+    v.first()
 }
 
 // Word k of the sample of body i: minus word n − i + k for k below i, word k − i for k below n, and then word n + i.
@@ -58,18 +92,12 @@ pub fn extract_lwe_at(
     index: usize,
     out: &mut [u32],
 ) -> u32
-    ensures { λ r. ⌜ Answers (firstOf (extractRows modulus (dimension .0) (now (input .entry)) index (length (now (out .entry))))) (extracted (sizeOf modulus) (dimension .0) (now (input .entry)) index) (now (out .entry)) r (now (out .exit)) ⌝ }
+    ensures { λ r. ⌜ Extracts modulus dimension (now (input .entry)) index (now (out .entry)) r (now (out .exit)) ⌝ }
 {
-    let n = dimension.get();
-    let r = checks::refuse(0, checks::modulus_refused(modulus), 2);
-    let r = checks::refuse(r, dimension_refused(n), 6);
-    let r = checks::refuse(r, packed_refused(input.len(), n), 10);
-    let r = checks::refuse(r, body_missing(input.len(), n, index), 10);
-    let r = checks::refuse(r, checks::ciphertext_differs(out.len(), n), 11);
-    let r = checks::refuse(r, checks::words_refused(modulus, input), 14);
+    let r = extract_refusal(modulus, dimension, input, index, out.len());
     if r != 0 {
         return r;
     }
-    write_extracted(out, input, n, index, modulus);
+    write_extracted(out, input, dimension.get(), index, modulus);
     0
 }

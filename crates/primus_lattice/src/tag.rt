@@ -1,11 +1,15 @@
-// What a ciphertext carries beside its words: its tally, a bound on its error. It is made and read through these functions only.
+// What a ciphertext carries beside its words: its tally, which bounds its error. Only these functions make and read it.
 ghost use mathlib.Core.Path.{_≡_};
-ghost use mathlib.Core.Bool.{false};
+ghost use mathlib.Core.Bool.{false, _||_};
 ghost use Prim.Native.Nat.{_+_, _*_, _^_, _<_, _≤_};
 ghost use lib.Dec.{ltb};
+ghost use Rattle.scheme.specs.Checks.{refusal};
 ghost use Rattle.scheme.specs.Tally.{addTally, good, tallyFails};
 ghost use Rattle.primus_reduce.specs.Ring.{sizeOf};
-ghost use Rattle.primus_lattice.specs.Answers.{meantTally, heldTally, tallyFor, numberOfTally, cap, tagAnswer, markAnswer};
+ghost use Rattle.primus_lattice.specs.Answers.{meantTally, heldTally, tallyFor, numberOfTally};
+ghost use Rattle.primus_lattice.specs.Answers.{cap, tagAnswer, markRows, markAnswer};
+use checks::Sizes;
+use checks::Values;
 use primus_reduce::Modulus;
 
 // A public-key, packed or switched ciphertext has none.
@@ -31,7 +35,7 @@ pub enum MarkAnswer {
 }
 
 impl Tally {
-    // The tally that one number stands for: 2^64 − 1 is none. No tally is lost: every other number above 2^32 is refused by 17.
+    // The tally that one number stands for: 2^64 − 1 is none, and 17 refuses every other number above 2^32.
     pub fn from_number(number: u64) -> Tally
         ensures { λ r. ⌜ r ≡ tallyFor number ⌝ }
     {
@@ -82,6 +86,14 @@ fn sum_refused(x: Tally, y: Tally) -> bool
     }
 }
 
+// 17, two tallies and their sum.
+fn tallies_refused(x: Tally, y: Tally) -> bool
+    ensures { λ r. ⌜ r ≡ ((tallyFails cap (addTally (meantTally x) (meantTally y)) || tallyFails cap (meantTally y)) ||
+        tallyFails cap (meantTally x)) ⌝ }
+{
+    (sum_refused(x, y) | tally_refused(y)) | tally_refused(x)
+}
+
 // A sum with one that has none has none.
 fn sum(x: Tally, y: Tally) -> Tally
     requires { ⌜ tallyFails cap (addTally (meantTally x) (meantTally y)) ≡ false ⌝ }
@@ -118,13 +130,29 @@ fn marked(q: u64, t: u32, tally: Tally) -> bool
     }
 }
 
+fn mark_refusal(tally: Tally, modulus: Modulus, t: u32) -> u32
+    ensures { λ r. ⌜ r ≡ refusal (markRows tally modulus t) ⌝ }
+{
+    let mut s = Sizes::NONE;
+    s.modulus = checks::modulus_refused(modulus);
+    s.plaintext = checks::plaintext_refused(t);
+    s.small = checks::small_refused(t, modulus);
+    let r = s.first();
+    if r != 0 {
+        return r;
+    }
+    let mut v = Values::NONE;
+    v.tally = tally_refused(tally);
+    v.first()
+}
+
 impl LweTag {
     // The tag of a fresh single secret-key ciphertext: its tally is the limit E, not |e|.
-    pub fn fresh(bound: u32) -> LweTag
-        ensures { λ r. ⌜ r .tally ≡ Tally.Present bound ⌝ }
+    pub fn fresh(error_limit: u32) -> LweTag
+        ensures { λ r. ⌜ r .tally ≡ Tally.Present «error_limit» ⌝ }
     {
         LweTag {
-            tally: Tally::Present(bound as u64),
+            tally: Tally::Present(error_limit as u64),
         }
     }
 
@@ -156,9 +184,9 @@ impl LweTag {
     {
         let x = self.tally;
         let y = other.tally;
-        let r = checks::refuse(0, tally_refused(x), 17);
-        let r = checks::refuse(r, tally_refused(y), 17);
-        let r = checks::refuse(r, sum_refused(x, y), 17);
+        let mut v = Values::NONE;
+        v.tally = tallies_refused(x, y);
+        let r = v.first();
         if r != 0 {
             return LweTagAnswer::Refused(r);
         }
@@ -170,10 +198,7 @@ impl LweTag {
         ensures { λ r. ⌜ r ≡ markAnswer (self .tally) modulus «plaintext_modulus» ⌝ }
     {
         let tally = self.tally;
-        let r = checks::refuse(0, checks::modulus_refused(modulus), 2);
-        let r = checks::refuse(r, checks::plaintext_refused(plaintext_modulus), 7);
-        let r = checks::refuse(r, checks::small_refused(plaintext_modulus, modulus), 8);
-        let r = checks::refuse(r, tally_refused(tally), 17);
+        let r = mark_refusal(tally, modulus, plaintext_modulus);
         if r != 0 {
             return MarkAnswer::Refused(r);
         }
