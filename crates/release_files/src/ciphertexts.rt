@@ -17,7 +17,7 @@ fn parameters(h: Head, dimension: LweDimension) -> LweParameters {
         dimension,
         modulus,
         plaintext_modulus: h.plaintext_modulus,
-        bound: h.bound,
+        bound: h.error_limit,
     }
 }
 

@@ -71,7 +71,7 @@ fn phases(h: Head, secret: &[u32], key: &[u32], out: &mut [u32]) -> u32 {
             let params = LweEncryptionParameters {
                 dimension,
                 modulus,
-                bound: h.bound,
+                bound: h.error_limit,
             };
             decrypt_phase_batch_to(params, secret, key, out)
         }
@@ -90,7 +90,7 @@ fn public_refusal(h: Head, secret: &[u32], key: &[u32], out: &mut [u32]) -> u32 
     if r != 0 {
         return r;
     }
-    near(out, n, h.bound, modulus.size())
+    near(out, n, h.error_limit, modulus.size())
 }
 
 pub(crate) fn public_key(folder: &[u8], name: &[u8], secret: &[u8]) {
