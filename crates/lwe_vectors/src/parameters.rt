@@ -4,7 +4,8 @@ use primus_lattice::LweDimension;
 use primus_lwe::LweEncryptionParameters;
 use primus_lwe::LweParameters;
 
-pub(crate) fn encryption(h: Head, dimension: LweDimension) -> LweEncryptionParameters {
+pub(crate) fn encryption(h: Head) -> LweEncryptionParameters {
+    let dimension = LweDimension::given(h.n);
     let modulus = h.modulus;
     LweEncryptionParameters {
         dimension,
@@ -13,7 +14,8 @@ pub(crate) fn encryption(h: Head, dimension: LweDimension) -> LweEncryptionParam
     }
 }
 
-pub(crate) fn message(h: Head, dimension: LweDimension) -> LweParameters {
+pub(crate) fn message(h: Head) -> LweParameters {
+    let dimension = LweDimension::given(h.n);
     let modulus = h.modulus;
     LweParameters {
         dimension,

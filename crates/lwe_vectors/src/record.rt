@@ -38,13 +38,6 @@ pub(crate) struct Places {
     pub(crate) end: usize,
 }
 
-fn modulus(r: &[u8]) -> Modulus {
-    if little_endian::u8_at(r, 1) == 0 {
-        return Modulus::Native;
-    }
-    Modulus::Explicit(little_endian::u32_at(r, 2))
-}
-
 fn embedding(r: &[u8]) -> PlaintextEmbedding {
     if little_endian::u8_at(r, 22) == 0 {
         return PlaintextEmbedding::Unsigned;
@@ -53,7 +46,7 @@ fn embedding(r: &[u8]) -> PlaintextEmbedding {
 }
 
 pub(crate) fn head_of(r: &[u8]) -> Head {
-    let modulus = modulus(r);
+    let modulus = programs::modulus_at(r, 1);
     let embedding = embedding(r);
     Head {
         kind: little_endian::u8_at(r, 0),
@@ -155,22 +148,4 @@ pub(crate) fn numbers(bytes: &[u8; 65536], from: usize) -> [i32; 2048] {
         i += 1;
     }
     room
-}
-
-// The first `count` words are the same.
-pub(crate) fn same(x: &[u32], y: &[u32], count: usize) -> bool {
-    let mut i = 0;
-    while i < count {
-        if x.len() <= i {
-            return false;
-        }
-        if y.len() <= i {
-            return false;
-        }
-        if x[i] != y[i] {
-            return false;
-        }
-        i += 1;
-    }
-    true
 }
