@@ -24,13 +24,13 @@ fn encryption_parameters_are(h: Head, p: LweEncryptionParameters) -> bool {
     let dimension = p.dimension;
     let modulus = p.modulus;
     let given = h.modulus;
-    dimension.get() == h.n && modulus.size() == given.size() && p.bound == h.bound
+    dimension.get() == h.n && modulus.size() == given.size() && p.error_limit == h.error_limit
 }
 
 fn encryption_parameters(h: Head) -> Said {
     let dimension = LweDimension::given(h.n);
     let modulus = h.modulus;
-    match LweEncryptionParameters::try_new(dimension, modulus, h.bound) {
+    match LweEncryptionParameters::try_new(dimension, modulus, h.error_limit) {
         LweEncryptionParametersAnswer::Accepted(p) => said::holds(encryption_parameters_are(h, p)),
         LweEncryptionParametersAnswer::Refused(n) => said::refused(n),
     }
@@ -43,7 +43,7 @@ fn parameters_are(h: Head, p: LweParameters) -> bool {
 fn parameters(h: Head) -> Said {
     let dimension = LweDimension::given(h.n);
     let modulus = h.modulus;
-    match LweParameters::try_new(dimension, modulus, h.t, h.bound) {
+    match LweParameters::try_new(dimension, modulus, h.t, h.error_limit) {
         LweParametersAnswer::Accepted(p) => said::holds(parameters_are(h, p)),
         LweParametersAnswer::Refused(n) => said::refused(n),
     }

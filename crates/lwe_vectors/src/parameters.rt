@@ -10,7 +10,7 @@ pub(crate) fn encryption(h: Head) -> LweEncryptionParameters {
     LweEncryptionParameters {
         dimension,
         modulus,
-        bound: h.bound,
+        error_limit: h.error_limit,
     }
 }
 
@@ -21,6 +21,6 @@ pub(crate) fn message(h: Head) -> LweParameters {
         dimension,
         modulus,
         plaintext_modulus: h.t,
-        bound: h.bound,
+        error_limit: h.error_limit,
     }
 }

@@ -3,21 +3,13 @@ use crate::parameters;
 use crate::record::Head;
 use crate::said;
 use crate::said::Said;
-use primus_lwe::LwePublicKey;
-use primus_lwe::MessageAnswer;
-use primus_lwe::PhaseAnswer;
+use checks::WordAnswer;
+use primus_lwe_public_key::LwePublicKey;
 
-fn phase(answer: PhaseAnswer) -> Said {
+fn word(answer: WordAnswer) -> Said {
     match answer {
-        PhaseAnswer::Phase(p) => said::value(p),
-        PhaseAnswer::Refused(n) => said::refused(n),
-    }
-}
-
-fn message(answer: MessageAnswer) -> Said {
-    match answer {
-        MessageAnswer::Message(m) => said::value(m),
-        MessageAnswer::Refused(n) => said::refused(n),
+        WordAnswer::Word(x) => said::value(x),
+        WordAnswer::Refused(n) => said::refused(n),
     }
 }
 
@@ -47,9 +39,9 @@ pub(crate) fn decrypt(h: Head, a: &[u32], b: &[u32], d: &[i32]) -> Said {
     let params = parameters::message(h);
     let kind = h.kind;
     match kind {
-        10 => phase(primus_lwe::decrypt_phase(p, a, b)),
-        11 => phase(primus_lwe::decrypt_phase_signed(p, d, b)),
-        14 => message(primus_lwe::decrypt_message(params, a, b)),
-        _ => message(primus_lwe::decrypt_message_signed(params, d, b)),
+        10 => word(primus_lwe::decrypt_phase(p, a, b)),
+        11 => word(primus_lwe::decrypt_phase_signed(p, d, b)),
+        14 => word(primus_lwe::decrypt_message(params, a, b)),
+        _ => word(primus_lwe::decrypt_message_signed(params, d, b)),
     }
 }

@@ -1,11 +1,11 @@
 // The buyers: they have the group's secret, and see only the switched total.
-use crate::BOUND;
+use crate::ERROR_LIMIT;
 use crate::PLAINTEXT_MODULUS;
 use crate::reasons;
 use primus_lattice::LweDimension;
 use primus_lattice::LweDimensionAnswer;
 use primus_lwe::LweParameters;
-use primus_lwe::decrypt_message_batch_to;
+use primus_lwe_batch::decrypt_message_batch_to;
 use primus_reduce::Modulus;
 use saved::Head;
 
@@ -34,7 +34,7 @@ fn with_dimension(dimension: LweDimension, modulus: Modulus, secret: &[u32], sen
         dimension,
         modulus,
         plaintext_modulus: PLAINTEXT_MODULUS,
-        bound: BOUND,
+        error_limit: ERROR_LIMIT,
     };
     let mut counts = [0u32; 4];
     let r = decrypt_message_batch_to(params, secret, sent, &mut counts);

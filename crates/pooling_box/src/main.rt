@@ -7,7 +7,7 @@ mod station;
 // What the shops and the buyers agreed on: counts are taken modulo t, errors lie within ±E, and a row has a count for each of four castings.
 pub(crate) const PLAINTEXT_MODULUS: u32 = 1024;
 
-pub(crate) const BOUND: u32 = 3;
+pub(crate) const ERROR_LIMIT: u32 = 3;
 
 pub(crate) const PLACES: usize = 4;
 

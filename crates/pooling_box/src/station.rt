@@ -2,13 +2,13 @@
 use crate::PLACES;
 use crate::PLAINTEXT_MODULUS;
 use crate::reasons;
-use key_switch::LweKeySwitchingParameters;
-use key_switch::LweKeySwitchingParametersAnswer;
 use key_switch::key_switch_batch_to;
-use key_switch::parameters_for;
+use key_switch_key::LweKeySwitchingParameters;
+use key_switch_key::LweKeySwitchingParametersAnswer;
 use pooling::PoolParameters;
 use pooling::add_saved;
-use primus_decompose::levels_for;
+use primus_decompose::ApproxSignedBasis;
+use primus_lattice::LweDimension;
 use primus_lattice::LweTag;
 use primus_lattice::MarkAnswer;
 use primus_lattice::Tally;
@@ -159,7 +159,11 @@ fn parameters(h: Head) -> LweKeySwitchingParametersAnswer {
     if h.kind != 3 {
         return LweKeySwitchingParametersAnswer::Refused(19);
     }
-    parameters_for(modulus, h.base_log, levels_for(h.levels), h.n, h.m)
+    LweKeySwitchingParameters::try_new(
+        ApproxSignedBasis::given(modulus, h.base_log, h.levels),
+        LweDimension::given(h.n),
+        LweDimension::given(h.m),
+    )
 }
 
 // What the box sends on: so many words, modulo q.

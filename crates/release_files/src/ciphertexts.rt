@@ -1,13 +1,13 @@
 // Ciphertexts, opened and compared with what they open to.
 use crate::files;
 use crate::files::DIFFERS;
+use checks::WordAnswer;
 use primus_lattice::LweDimension;
 use primus_lattice::LweDimensionAnswer;
 use primus_lwe::LweParameters;
-use primus_lwe::MessageAnswer;
-use primus_lwe::decrypt_message_batch_to;
-use primus_lwe::decrypt_message_packed;
 use primus_lwe::decrypt_message_signed;
+use primus_lwe_batch::decrypt_message_batch_to;
+use primus_lwe_packed::decrypt_message_packed;
 use saved::Head;
 use saved_files::Loaded;
 
@@ -17,7 +17,7 @@ fn parameters(h: Head, dimension: LweDimension) -> LweParameters {
         dimension,
         modulus,
         plaintext_modulus: h.plaintext_modulus,
-        bound: h.error_limit,
+        error_limit: h.error_limit,
     }
 }
 
@@ -61,8 +61,8 @@ fn message_at(
         return 0xffff_ffff;
     }
     match decrypt_message_signed(params, secret, &words[at..end]) {
-        MessageAnswer::Message(m) => m,
-        MessageAnswer::Refused(_) => 0xffff_ffff,
+        WordAnswer::Word(m) => m,
+        WordAnswer::Refused(_) => 0xffff_ffff,
     }
 }
 

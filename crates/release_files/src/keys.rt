@@ -1,14 +1,12 @@
 // Keys, each tried on what it was made for.
 use crate::files;
 use crate::files::DIFFERS;
-use key_switch::LweKeySwitchingParametersAnswer;
 use key_switch::key_switch_batch_to;
-use key_switch::parameters_for;
-use primus_decompose::levels_for;
+use key_switch_key::LweKeySwitchingParameters;
 use primus_lattice::LweDimension;
 use primus_lattice::LweDimensionAnswer;
 use primus_lwe::LweEncryptionParameters;
-use primus_lwe::decrypt_phase_batch_to;
+use primus_lwe_batch::decrypt_phase_batch_to;
 use saved::Head;
 
 fn secret_refusal(h: Head, kind: u32) -> u32 {
@@ -71,7 +69,7 @@ fn phases(h: Head, secret: &[u32], key: &[u32], out: &mut [u32]) -> u32 {
             let params = LweEncryptionParameters {
                 dimension,
                 modulus,
-                bound: h.error_limit,
+                error_limit: h.error_limit,
             };
             decrypt_phase_batch_to(params, secret, key, out)
         }
@@ -108,15 +106,8 @@ pub(crate) fn public_key(folder: &[u8], name: &[u8], secret: &[u8]) {
 
 fn switch(h: Head, key: &[u32], input: &[u32], out: &mut [u32]) -> u32 {
     let modulus = h.modulus;
-    match parameters_for(modulus, h.base_log, levels_for(h.levels), h.n, h.m) {
-        LweKeySwitchingParametersAnswer::Accepted(params) => key_switch_batch_to(
-            params,
-            key,
-            input,
-            out,
-        ),
-        LweKeySwitchingParametersAnswer::Refused(r) => r,
-    }
+    let params = LweKeySwitchingParameters::given(modulus, h.base_log, h.levels, h.n, h.m);
+    key_switch_batch_to(params, key, input, out)
 }
 
 // The key switches the saved input to the saved output, word for word.
