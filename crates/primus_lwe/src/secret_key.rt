@@ -3,8 +3,6 @@ mod borrowed;
 pub(crate) mod form;
 mod message;
 mod message_batch;
-mod message_packed;
-pub(crate) mod packed;
 
 pub use borrowed::decrypt_phase;
 pub use borrowed::decrypt_phase_signed;
@@ -27,7 +25,3 @@ pub use message::encrypt_message_to;
 pub use message_batch::decrypt_message_batch_to;
 pub use message_batch::decrypt_phase_batch_to;
 pub use message_batch::encrypt_message_batch_to;
-pub use message_packed::decrypt_message_packed;
-pub use message_packed::encrypt_message_packed;
-pub use packed::decrypt_phase_packed;
-pub use packed::encrypt_encoded_packed;
