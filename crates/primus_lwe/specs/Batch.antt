@@ -7,7 +7,7 @@ use lib.Dec.{eqb}
 use lib.IntN.{ℤ, pos, natAbs, _+ℤ_, _*ℤ_}
 use lib.ListN.{length, getD}
 use Rattle.scheme.specs.Numbers.{pick, residue}
-use Rattle.scheme.specs.Checks.{Check, row, firstOf, modulusFails, dimensionFails, plaintextFails, smallFails, lengthFails, countFails, packedFails, batchFails, boundFails, wordFails, wordsFail, errorsFail, coefficientsFail, messageFails, messagesFail}
+use Rattle.scheme.specs.Checks.{Check, row, firstOf, modulusFails, dimensionFails, plaintextFails, smallFails, lengthFails, countFails, packedFails, batchFails, errorLimitFails, wordFails, wordsFail, errorsFail, coefficientsFail, messageFails, messagesFail}
 use Rattle.primus_reduce.specs.Ring.{meant, sizeOf}
 use Rattle.primus_lwe.specs.declared.parameter.LweEncryptionParameters.{LweEncryptionParameters}
 use Rattle.primus_lwe.specs.declared.parameter.LweParameters.{LweParameters}
@@ -23,7 +23,7 @@ batchRows P s masks es xs room =
     ∷ row (lengthFails room (length xs * (P .dimension .0 + 1))) 11
     ∷ row (lengthFails (length masks) (length xs * P .dimension .0)) 12
     ∷ row (lengthFails (length es) (length xs)) 12
-    ∷ row (boundFails (sizeOf (P .modulus)) (P .«error_limit»)) 13
+    ∷ row (errorLimitFails (sizeOf (P .modulus)) (P .«error_limit»)) 13
     ∷ row (wordsFail (sizeOf (P .modulus)) s) 14
     ∷ row (wordsFail (sizeOf (P .modulus)) masks) 14
     ∷ row (errorsFail (P .«error_limit») es) 15
@@ -41,7 +41,7 @@ batchPhaseRows P s x room =
     ∷ row (lengthFails (length s) (P .dimension .0)) 9
     ∷ row (batchFails (length x) (P .dimension .0)) 10
     ∷ row (lengthFails room (length x / (P .dimension .0 + 1))) 11
-    ∷ row (boundFails (sizeOf (P .modulus)) (P .«error_limit»)) 13
+    ∷ row (errorLimitFails (sizeOf (P .modulus)) (P .«error_limit»)) 13
     ∷ row (wordsFail (sizeOf (P .modulus)) s) 14
     ∷ row (wordsFail (sizeOf (P .modulus)) x) 14
     ∷ []
@@ -59,7 +59,7 @@ batchOpenRows P s x room =
     ∷ row (lengthFails (length s) (P .dimension .0)) 9
     ∷ row (batchFails (length x) (P .dimension .0)) 10
     ∷ row (lengthFails room (length x / (P .dimension .0 + 1))) 11
-    ∷ row (boundFails (sizeOf (P .modulus)) (P .«error_limit»)) 13
+    ∷ row (errorLimitFails (sizeOf (P .modulus)) (P .«error_limit»)) 13
     ∷ row (wordsFail (sizeOf (P .modulus)) s) 14
     ∷ row (wordsFail (sizeOf (P .modulus)) x) 14
     ∷ []

@@ -78,7 +78,7 @@ fn batch_refusal(
     let r = checks::refuse(r, checks::ciphertexts_differ(room, count, n), 11);
     let r = checks::refuse(r, checks::runs_differ(masks.len(), count, n), 12);
     let r = checks::refuse(r, checks::length_differs(errors.len(), count), 12);
-    let r = checks::refuse(r, checks::bound_refused(params.error_limit, modulus), 13);
+    let r = checks::refuse(r, checks::error_limit_refused(params.error_limit, modulus), 13);
     let r = checks::refuse(r, checks::words_refused(modulus, secret), 14);
     let r = checks::refuse(r, checks::words_refused(modulus, masks), 14);
     let r = checks::refuse(r, checks::errors_refused(params.error_limit, errors), 15);
@@ -134,7 +134,7 @@ fn batch_phase_refusal(
     let r = checks::refuse(r, checks::batch_differs(input.len(), n), 10);
     let count = checks::batch_count(input.len(), n);
     let r = checks::refuse(r, checks::length_differs(room, count), 11);
-    let r = checks::refuse(r, checks::bound_refused(params.error_limit, modulus), 13);
+    let r = checks::refuse(r, checks::error_limit_refused(params.error_limit, modulus), 13);
     let r = checks::refuse(r, checks::words_refused(modulus, secret), 14);
     checks::refuse(r, checks::words_refused(modulus, input), 14)
 }
@@ -187,7 +187,7 @@ fn batch_open_refusal(params: LweParameters, secret: &[u32], input: &[u32], room
     let r = checks::refuse(r, checks::batch_differs(input.len(), n), 10);
     let count = checks::batch_count(input.len(), n);
     let r = checks::refuse(r, checks::length_differs(room, count), 11);
-    let r = checks::refuse(r, checks::bound_refused(params.error_limit, modulus), 13);
+    let r = checks::refuse(r, checks::error_limit_refused(params.error_limit, modulus), 13);
     let r = checks::refuse(r, checks::words_refused(modulus, secret), 14);
     checks::refuse(r, checks::words_refused(modulus, input), 14)
 }

@@ -29,7 +29,7 @@ returns c =
     ▹ (r5 .refuse5 .ensures, r5 .before .length-differs .ensures)
     ▹ (r6 .refuse6 .ensures, r6 .before .batch-differs .ensures)
     ▹ (r7 .refuse7 .ensures, r7 .before .length-differs2 .ensures ∙ ap (lengthFails (a .room)) (r7 .before .before .batch-count .ensures))
-    ▹ (r8 .refuse8 .ensures, r8 .before .bound-refused .ensures)
+    ▹ (r8 .refuse8 .ensures, r8 .before .error-limit-refused .ensures)
     ▹ (r9 .refuse9 .ensures, r9 .before .words-refused .ensures)
     ▹ (c .refuse10 .ensures, c .before .words-refused2 .ensures))
     ∙ ap (λ n. batchOpenRefusal (with-dimension-t (a .params) n) (a .secret .now) (a .input .now) (a .room)) (g .get .ensures)

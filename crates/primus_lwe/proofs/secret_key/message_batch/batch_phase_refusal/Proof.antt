@@ -25,7 +25,7 @@ returns c =
     ▹ (r3 .refuse3 .ensures, r3 .before .length-differs .ensures)
     ▹ (r4 .refuse4 .ensures, r4 .before .batch-differs .ensures)
     ▹ (r5 .refuse5 .ensures, r5 .before .length-differs2 .ensures ∙ ap (lengthFails (a .room)) (r5 .before .before .batch-count .ensures))
-    ▹ (r6 .refuse6 .ensures, r6 .before .bound-refused .ensures)
+    ▹ (r6 .refuse6 .ensures, r6 .before .error-limit-refused .ensures)
     ▹ (r7 .refuse7 .ensures, r7 .before .words-refused .ensures)
     ▹ (c .refuse8 .ensures, c .before .words-refused2 .ensures))
     ∙ ap (λ n. batchPhaseRefusal (with-dimension (a .params) n) (a .secret .now) (a .input .now) (a .room)) (g .get .ensures)

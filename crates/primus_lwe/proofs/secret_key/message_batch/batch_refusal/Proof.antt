@@ -32,7 +32,7 @@ returns c =
     ▹ (r6 .refuse6 .ensures, r6 .before .ciphertexts-differ .ensures)
     ▹ (r7 .refuse7 .ensures, r7 .before .runs-differ .ensures)
     ▹ (r8 .refuse8 .ensures, r8 .before .length-differs2 .ensures)
-    ▹ (r9 .refuse9 .ensures, r9 .before .bound-refused .ensures)
+    ▹ (r9 .refuse9 .ensures, r9 .before .error-limit-refused .ensures)
     ▹ (r10 .refuse10 .ensures, r10 .before .words-refused .ensures)
     ▹ (r11 .refuse11 .ensures, r11 .before .words-refused2 .ensures)
     ▹ (r12 .refuse12 .ensures, r12 .before .errors-refused .ensures)
