@@ -2,7 +2,6 @@
 mod borrowed;
 pub(crate) mod form;
 mod message;
-mod message_batch;
 mod message_packed;
 pub(crate) mod packed;
 
@@ -24,9 +23,6 @@ pub use message::decrypt_message;
 pub use message::decrypt_message_signed;
 pub use message::encrypt_message_signed_to;
 pub use message::encrypt_message_to;
-pub use message_batch::decrypt_message_batch_to;
-pub use message_batch::decrypt_phase_batch_to;
-pub use message_batch::encrypt_message_batch_to;
 pub use message_packed::decrypt_message_packed;
 pub use message_packed::encrypt_message_packed;
 pub use packed::decrypt_phase_packed;
