@@ -2,8 +2,6 @@
 mod borrowed;
 pub(crate) mod form;
 mod message;
-mod message_packed;
-pub(crate) mod packed;
 
 pub use borrowed::decrypt_phase;
 pub use borrowed::decrypt_phase_signed;
@@ -23,7 +21,3 @@ pub use message::decrypt_message;
 pub use message::decrypt_message_signed;
 pub use message::encrypt_message_signed_to;
 pub use message::encrypt_message_to;
-pub use message_packed::decrypt_message_packed;
-pub use message_packed::encrypt_message_packed;
-pub use packed::decrypt_phase_packed;
-pub use packed::encrypt_encoded_packed;
