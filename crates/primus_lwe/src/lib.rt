@@ -1,7 +1,6 @@
 // LWE encryption over words of 32 bits. Random masks and errors are lent.
 mod batch;
 mod parameter;
-mod public_key;
 mod secret_key;
 
 pub use batch::encrypt_row;
@@ -9,7 +8,6 @@ pub use parameter::LweEncryptionParameters;
 pub use parameter::LweEncryptionParametersAnswer;
 pub use parameter::LweParameters;
 pub use parameter::LweParametersAnswer;
-pub use public_key::LwePublicKey;
 pub use secret_key::KeyForm;
 pub use secret_key::decrypt_message;
 pub use secret_key::decrypt_message_signed;

@@ -1,0 +1,5 @@
+// LWE public keys over words of 32 bits. Random masks, errors and coefficients are lent.
+mod public_key;
+mod rows;
+
+pub use public_key::LwePublicKey;
