@@ -3,13 +3,12 @@ ghost use mathlib.Core.Path.{_≡_};
 ghost use Prim.Native.Nat.{_+_, _*_, _<_, _≤_};
 ghost use lib.IntN.{pos};
 ghost use lib.ListN.{length, getD, take, drop};
-ghost use Rattle.scheme.specs.Lwe.{words, secretOf, encrypted, phaseOf, rowOf};
+ghost use Rattle.scheme.specs.Lwe.{secretOf, encrypted};
 ghost use Rattle.primus_reduce.specs.Ring.{sizeOf};
 ghost use Rattle.primus_lwe.specs.Key.{keyOf};
 ghost use Rattle.primus_lwe.specs.Answers.{replaced};
 use crate::secret_key::KeyForm;
 use crate::secret_key::encrypt_to;
-use crate::secret_key::phase;
 use primus_reduce::Modulus;
 
 // Row i in its place, for calls that have judged what they are lent: mask i, and the body ⟨a, s⟩ + e + p with error i.
@@ -47,17 +46,4 @@ pub fn encrypt_row(
         plaintext,
         modulus,
     );
-}
-
-// The phase of row i.
-pub(crate) fn row_phase(input: &[u32], secret: &[u32], i: usize, modulus: Modulus) -> u32
-    requires { ⌜ (0 < sizeOf modulus)
-        × (i * (length (now secret) + 1) + (length (now secret) + 1) ≤ length (now input)) ⌝ }
-    ensures { λ r. ⌜ r ≡ phaseOf (sizeOf modulus) (length (now (secret .entry)))
-        (rowOf (length (now (secret .entry))) (now (input .entry)) i) (words (now (secret .entry))) ⌝ }
-{
-    let n = secret.len();
-    let at = i * (n + 1);
-    let end = at + (n + 1);
-    phase(KeyForm::Words, secret, &[], &input[at..end], n, modulus)
 }

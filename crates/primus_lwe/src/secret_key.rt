@@ -2,7 +2,6 @@
 mod borrowed;
 pub(crate) mod form;
 mod message;
-mod message_batch;
 
 pub use borrowed::decrypt_phase;
 pub use borrowed::decrypt_phase_signed;
@@ -22,6 +21,3 @@ pub use message::decrypt_message;
 pub use message::decrypt_message_signed;
 pub use message::encrypt_message_signed_to;
 pub use message::encrypt_message_to;
-pub use message_batch::decrypt_message_batch_to;
-pub use message_batch::decrypt_phase_batch_to;
-pub use message_batch::encrypt_message_batch_to;

@@ -1,0 +1,7 @@
+// Batches of LWE ciphertexts under a secret key: n + 1 words each, one after the other. Random masks and errors are lent.
+mod message_batch;
+mod sizes;
+
+pub use message_batch::decrypt_message_batch_to;
+pub use message_batch::decrypt_phase_batch_to;
+pub use message_batch::encrypt_message_batch_to;
