@@ -15,6 +15,9 @@ use Rattle.primus_lwe.specs.declared.parameter.LweEncryptionParameters.{LweEncr
 use Rattle.primus_lwe.specs.declared.parameter.LweParameters.{LweParameters}
 use Rattle.primus_lwe.specs.Answers.{Encrypts, EncryptsMessage, TakesPhase, Decrypts}
 use Rattle.primus_lwe_batch.specs.Answers.{EncryptsBatch, TakesPhases, DecryptsBatch}
+use Rattle.key_switch_key.specs.declared.parameters.LweKeySwitchingParameters.{LweKeySwitchingParameters}
+use Rattle.key_switch_key.specs.Answers.{Generates}
+use Rattle.key_switch.specs.Answers.{Switches, SwitchesBatch}
 use Rattle.saigagalena.specs.Bases.{WritesBasis, WritesReading}
 
 module _ {b d : ApproxSignedBasis} (e : b ≡ d) {r : ℕ} where
@@ -68,3 +71,15 @@ module _ {P Q : LweParameters} (e : P ≡ Q) where
 
   pub decrypts-batch-of : {key : Key} {x before after : List ℕ} {r : ℕ} → DecryptsBatch P key x before r after → DecryptsBatch Q key x before r after
   decrypts-batch-of {key} {x} {before} {after} {r} h = subst (λ (z : LweParameters). DecryptsBatch z key x before r after) e h
+
+module _ {P Q : LweKeySwitchingParameters} (e : P ≡ Q) where
+  pub generates-of : {E : ℕ} {key : Key} {s′ masks : List ℕ} {es : List ℤ} {before after : List ℕ} {r : ℕ}
+      → Generates P E key s′ masks es before r after → Generates Q E key s′ masks es before r after
+  generates-of {E} {key} {s′} {masks} {es} {before} {after} {r} h =
+      subst (λ (z : LweKeySwitchingParameters). Generates z E key s′ masks es before r after) e h
+
+  pub switches-of : {key x before after : List ℕ} {r : ℕ} → Switches P key x before r after → Switches Q key x before r after
+  switches-of {key} {x} {before} {after} {r} h = subst (λ (z : LweKeySwitchingParameters). Switches z key x before r after) e h
+
+  pub switches-batch-of : {key x before after : List ℕ} {r : ℕ} → SwitchesBatch P key x before r after → SwitchesBatch Q key x before r after
+  switches-batch-of {key} {x} {before} {after} {r} h = subst (λ (z : LweKeySwitchingParameters). SwitchesBatch z key x before r after) e h

@@ -63,7 +63,15 @@ pub extern "C" fn saigagalena_encrypt_message(
         (now (out .exit)) ⌝ }
 {
     let params = parameters::messages_for(modulus, n, t, error_limit);
-    primus_lwe::encrypt_message_to(params, parameters::embedding_for(centered), secret, mask, errors, message, out)
+    primus_lwe::encrypt_message_to(
+        params,
+        parameters::embedding_for(centered),
+        secret,
+        mask,
+        errors,
+        message,
+        out,
+    )
 }
 
 // saigagalena_encrypt_message under a signed key.
@@ -85,7 +93,15 @@ pub extern "C" fn saigagalena_encrypt_message_signed(
         (now (out .exit)) ⌝ }
 {
     let params = parameters::messages_for(modulus, n, t, error_limit);
-    primus_lwe::encrypt_message_signed_to(params, parameters::embedding_for(centered), secret, mask, errors, message, out)
+    primus_lwe::encrypt_message_signed_to(
+        params,
+        parameters::embedding_for(centered),
+        secret,
+        mask,
+        errors,
+        message,
+        out,
+    )
 }
 
 // An encryption of encode(m) for each message. Refuses by 2, 6, 7, 8, 9, 11, 12, 13, 14, 15, 16.
@@ -107,7 +123,15 @@ pub extern "C" fn saigagalena_encrypt_message_batch(
         (now (out .entry)) r (now (out .exit)) ⌝ }
 {
     let params = parameters::messages_for(modulus, n, t, error_limit);
-    primus_lwe_batch::encrypt_message_batch_to(params, parameters::embedding_for(centered), secret, masks, errors, messages, out)
+    primus_lwe_batch::encrypt_message_batch_to(
+        params,
+        parameters::embedding_for(centered),
+        secret,
+        masks,
+        errors,
+        messages,
+        out,
+    )
 }
 
 // n mask words, then a body for each plaintext. Refuses by 2, 6, 9, 10, 11, 12, 13, 14, 15.
@@ -149,5 +173,13 @@ pub extern "C" fn saigagalena_encrypt_message_packed(
         (now (out .entry)) r (now (out .exit)) ⌝ }
 {
     let params = parameters::messages_for(modulus, n, t, error_limit);
-    primus_lwe_packed::encrypt_message_packed(params, parameters::embedding_for(centered), secret, mask, errors, messages, out)
+    primus_lwe_packed::encrypt_message_packed(
+        params,
+        parameters::embedding_for(centered),
+        secret,
+        mask,
+        errors,
+        messages,
+        out,
+    )
 }

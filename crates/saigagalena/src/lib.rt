@@ -7,6 +7,7 @@ mod encrypt;
 mod lattice;
 mod parameters;
 mod public_key;
+mod switch;
 
 pub use basis::saigagalena_basis;
 pub use basis::saigagalena_decompose;
@@ -38,3 +39,7 @@ pub use public_key::saigagalena_public_key_encrypt_encoded;
 pub use public_key::saigagalena_public_key_encrypt_message;
 pub use public_key::saigagalena_public_key_generate;
 pub use public_key::saigagalena_public_key_generate_signed;
+pub use switch::saigagalena_key_generate;
+pub use switch::saigagalena_key_generate_signed;
+pub use switch::saigagalena_key_switch;
+pub use switch::saigagalena_key_switch_batch;

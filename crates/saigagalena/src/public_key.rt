@@ -79,5 +79,13 @@ pub extern "C" fn saigagalena_public_key_encrypt_message(
         (now (out .exit)) ⌝ }
 {
     let params = parameters::messages_for(modulus, n, t, error_limit);
-    LwePublicKey::encrypt_message_to(params, parameters::embedding_for(centered), key, errors, coefficients, message, out)
+    LwePublicKey::encrypt_message_to(
+        params,
+        parameters::embedding_for(centered),
+        key,
+        errors,
+        coefficients,
+        message,
+        out,
+    )
 }
