@@ -27,9 +27,11 @@ use Rattle.primus_reduce.specs.Ring.{meant, sizeOf}
 use Rattle.checks.proofs.Laws.{words-below}
 use Rattle.primus_lwe.proofs.Laws.{none-fails}
 use Rattle.primus_decompose.specs.Answers.{basis}
-use Rattle.key_switch.specs.declared.parameters.LweKeySwitchingParameters.{LweKeySwitchingParameters}
-use Rattle.key_switch.specs.Answers.{sizesOf, parameterRows, batchRows, batchRefusal}
-use Rattle.key_switch.proofs.Passed.{parameters-passed, batch-passed}
+use Rattle.key_switch_key.specs.declared.parameters.LweKeySwitchingParameters.{LweKeySwitchingParameters}
+use Rattle.key_switch_key.specs.Answers.{sizesOf, parameterRows}
+use Rattle.key_switch_key.proofs.Passed.{parameters-passed}
+use Rattle.key_switch.specs.Answers.{batchRows, batchRefusal}
+use Rattle.key_switch.proofs.Passed.{batch-passed}
 
 -- rows that pass do not count
 after-passes : (cs ds : List Check) → Passes cs → firstOf (cs ++ ds) ≡ firstOf ds

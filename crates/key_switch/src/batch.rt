@@ -1,75 +1,45 @@
-// Batches, eight ciphertexts to a tile.
+// The switch of a batch.
 ghost use mathlib.Core.Path.{_≡_};
-ghost use Prim.Native.Nat.{_+_, _*_, _≤_};
+ghost use Prim.Native.Nat.{_+_, _/_};
 ghost use lib.ListN.{length};
 ghost use Rattle.scheme.specs.Switch.{switchedBatch};
-ghost use Rattle.primus_decompose.specs.Params.{basisIn};
-ghost use Rattle.key_switch.specs.Tile.{Shaped};
-use crate::explicit;
-use crate::native;
-use primus_decompose::PreparedBasis;
-use primus_reduce::Modulus;
+ghost use Rattle.scheme.specs.Checks.{Answers};
+ghost use Rattle.primus_decompose.specs.Answers.{basis};
+ghost use Rattle.key_switch.specs.Answers.{batchRefusal};
+use crate::switch_checked;
+use key_switch_key::LweKeySwitchingParameters;
+use key_switch_key::key_differs;
 
-// One tile; acc is room for the accumulators of an explicit modulus.
-fn switch_tile(
-    acc: &mut [u64],
-    out: &mut [u32],
-    input: &[u32],
-    key: &[u32],
-    n: usize,
-    m: usize,
-    rows: usize,
-    p: PreparedBasis,
-)
-    requires { ⌜ (rows ≤ 8) × Shaped p n m rows (now input) (now key) × (length (now acc) ≡ rows * (m + 1)) × (length (now out) ≡ rows * (m + 1)) ⌝ }
-    ensures { λ _. ⌜ now (out .exit) ≡ switchedBatch (basisIn p) n m (now (key .entry)) rows (now (input .entry)) ⌝ }
+// The first refusal of a batch, or 0.
+fn batch_refusal(params: LweKeySwitchingParameters, key: &[u32], input: &[u32], room: usize) -> u32
+    ensures { λ r. ⌜ r ≡ batchRefusal params (now (key .entry)) (now (input .entry)) room ⌝ }
 {
-    let modulus = p.modulus;
-    match modulus {
-        Modulus::Native => native::switch_tile(out, input, key, n, m, rows, p),
-        Modulus::Explicit(q) => explicit::switch_tile(acc, out, input, key, n, m, rows, q, p),
-    }
+    let z = params.sizes();
+    let modulus = z.modulus;
+    let count = checks::batch_count(input.len(), z.n);
+    let r = params.refusal();
+    let r = checks::refuse(r, key_differs(key.len(), z.n, z.levels, z.m), 9);
+    let r = checks::refuse(r, checks::batch_differs(input.len(), z.n), 10);
+    let r = checks::refuse(r, checks::ciphertexts_differ(room, count, z.m), 11);
+    let r = checks::refuse(r, checks::words_refused(modulus, key), 14);
+    checks::refuse(r, checks::words_refused(modulus, input), 14)
 }
 
-// The lesser of 8 and x.
-fn up_to_eight(x: usize) -> usize
-    ensures { λ r. ⌜ (r ≤ 8) × (r ≤ x) × (1 ≤ x → 1 ≤ r) ⌝ }
-{
-    if x < 8 { x } else { 8 }
-}
-
-// Switches `count` ciphertexts. The accumulators are made once, for every tile.
-pub(crate) fn switch_tiles(
-    out: &mut [u32],
-    input: &[u32],
+// Each row of n + 1 words is switched to its own row of m + 1. Refuses by 1 to 6, 9, 10, 11, 14.
+pub fn key_switch_batch_to(
+    params: LweKeySwitchingParameters,
     key: &[u32],
-    n: usize,
-    m: usize,
-    count: usize,
-    p: PreparedBasis,
-)
-    requires { ⌜ Shaped p n m count (now input) (now key) × (length (now out) ≡ count * (m + 1)) ⌝ }
-    ensures { λ _. ⌜ now (out .exit) ≡ switchedBatch (basisIn p) n m (now (key .entry)) count (now (input .entry)) ⌝ }
+    input: &[u32],
+    out: &mut [u32],
+) -> u32
+    ensures { λ r. ⌜ Answers (batchRefusal params (now (key .entry)) (now (input .entry)) (length (now (out .entry)))) (switchedBatch (basis (params .basis)) (params .«input_dimension» .0) (params .«output_dimension» .0) (now (key .entry)) (length (now (input .entry)) / (params .«input_dimension» .0 + 1)) (now (input .entry))) (now (out .entry)) r (now (out .exit)) ⌝ }
 {
-    let mut acc: [u64; 16392] = [0; 16392];
-    let mut done = 0;
-    while done < count {
-        let rows = up_to_eight(count - done);
-        let room = rows * (m + 1);
-        let from = done * (m + 1);
-        let to = from + room;
-        let first = done * (n + 1);
-        let last = first + rows * (n + 1);
-        switch_tile(
-            &mut acc[0..room],
-            &mut out[from..to],
-            &input[first..last],
-            key,
-            n,
-            m,
-            rows,
-            p,
-        );
-        done += rows;
+    let r = batch_refusal(params, key, input, out.len());
+    if r != 0 {
+        return r;
     }
+    let z = params.sizes();
+    let count = checks::batch_count(input.len(), z.n);
+    switch_checked(out, input, key, count, params);
+    0
 }
