@@ -23,9 +23,9 @@ use Rattle.scheme.proofs.Modulus.{size-most}
 use Rattle.scheme.proofs.Walk.{walk-digits, carry-in-most}
 use Rattle.primus_reduce.specs.Ring.{meant, sizeOf}
 use Rattle.primus_decompose.specs.declared.primitive.common.SignedDecomposer.{SignedDecomposer}
-use Rattle.primus_decompose.specs.declared.primitive.params.PreparedBasis.{PreparedBasis}
+use Rattle.primus_decompose.specs.declared.primitive.prepared.PreparedBasis.{PreparedBasis}
 use Rattle.primus_decompose.specs.Step.{windowOf, stepOf}
-use Rattle.primus_decompose.specs.Params.{Ready, basisIn, firstCarry, decomposerOf}
+use Rattle.primus_decompose.specs.Prepared.{Ready, basisIn, firstCarry, decomposerOf}
 use Rattle.primus_decompose.specs.Column.{after, stepDigit, Column, Words}
 
 -- ---- one column
@@ -145,13 +145,3 @@ written-next p r xs i out out′ d h e c w =
 
 pub written-all : (b : Basis) (xs : List ℕ) (i : ℕ) (out : List ℕ) → length xs ≤ i → Written b xs i out → out ≡ runsOf b xs
 written-all b xs i out h w = is-runs b xs out (w .sized) (λ j k l g. w .digits j k l (omega arith))
-
--- one word alone
-pub one-column : (p : PreparedBasis) → Ready p → (a : ℕ) (d : SignedDecomposer) (out₀ out : List ℕ) → length out₀ ≡ p .«level_count» → d ≡ decomposerOf (basisIn p) a
-    → Column d (p .«level_count») 1 0 out₀ out → out ≡ digitsOf (basisIn p) a
-one-column p r a d out₀ out l e c =
-    is-tabulate (p .«level_count») _ out (c .same-length ∙ l)
-    (λ j h. ap (λ n. getD out n 0) (plain j) ∙ c .digits j h ∙ ap (λ x. stepDigit x j) e ∙ step-digits p r a j h)
-  where
-    plain : (j : ℕ) → j ≡ j * 1 + 0
-    plain j = omega arith

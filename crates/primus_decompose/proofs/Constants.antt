@@ -13,10 +13,10 @@ use Rattle.scheme.specs.Basis.{base, boundOf, dropped}
 use Rattle.scheme.specs.Reading.{largest, threshold}
 use Rattle.scheme.proofs.Reading.{pow-mul, threshold-half}
 use Rattle.scheme.proofs.Checks.{Sound}
-use Rattle.primus_decompose.specs.Params.{wrapAt, Sized, Ready, basisBy, basisIn, preparedOf, adjustBy, initOf, decomposerOf, decomposerFrom}
+use Rattle.primus_decompose.specs.Prepared.{wrapAt, Narrow, Ready, basisBy, basisIn, preparedOf, adjustBy, initOf, decomposerOf, decomposerFrom}
 use Rattle.primus_decompose.proofs.Windows.{above-none}
 use Rattle.primus_decompose.specs.declared.primitive.basis.ValueCarry.{ValueCarry}
-use Rattle.primus_decompose.specs.declared.primitive.params.PreparedBasis.{PreparedBasis}
+use Rattle.primus_decompose.specs.declared.primitive.prepared.PreparedBasis.{PreparedBasis}
 use Rattle.scheme.specs.Walk.{adjusted, carryIn}
 use Rattle.primus_reduce.proofs.Laws.{one-shl, product-most}
 use Rattle.primus_reduce.specs.Ring.{meant, sizeOf}
@@ -79,7 +79,7 @@ pub record Steps (log L d x y z h : ℕ) : Type 0 where
   pub sum : (x / 2 - 1) * (y - 1) / (x - 1) * z + h < 2 ^ 32
   pub is : (x / 2 - 1) * (y - 1) / (x - 1) * z + h ≡ wrapAt log L d
 
-pub threshold-steps : (log L d x y z h : ℕ) → Sized log L d → x ≡ 2 ^ log → y ≡ 2 ^ (L * log) → z ≡ 2 ^ d → h ≡ max (boundOf d) 1 → Steps log L d x y z h
+pub threshold-steps : (log L d x y z h : ℕ) → Narrow log L d → x ≡ 2 ^ log → y ≡ 2 ^ (L * log) → z ≡ 2 ^ d → h ≡ max (boundOf d) 1 → Steps log L d x y z h
 threshold-steps log L d x y z h s ex ey ez eh =
     let b : 4 ≤ x = omega (arith, pow-mono {i = 2} {j = log} (s .least)) in
     let u : x < 2 ^ 32 = omega (arith, pow-lt {i = log} {j = 32} (s .most)) in
@@ -111,9 +111,9 @@ module _ (m : Modulus) (b L : ℕ) (s : Sound 32 (meant m) b L) where
       ap (λ n. (2 ^ b / 2 - 1) * (n - 1) / (2 ^ b - 1) * 2 ^ dropped (basisBy m b L) + max (boundOf (dropped (basisBy m b L))) 1)
       (ap (λ n. 2 ^ n) (mul-comm L b) ∙ pow-mul 2 b L)
 
-  pub sized : Sized b L (dropped (basisBy m b L))
+  pub narrow : Narrow b L (dropped (basisBy m b L))
   unfolding dropped
-  sized =
+  narrow =
       record {
         least = s .log-least;
         most = s .log-most;
@@ -136,9 +136,9 @@ module _ (m : Modulus) (b L : ℕ) (s : Sound 32 (meant m) b L) where
     pub product-fits : L * b < 2 ^ 32
     product-fits = omega (arith, levels-room, s .bits-within)
 
-    pub sized-of : Sized b L (k - L * b)
+    pub narrow-of : Narrow b L (k - L * b)
     unfolding dropped
-    sized-of = rw ek sized
+    narrow-of = rw ek narrow
 
     pub covered-of : q ≤ 2 ^ k
     covered-of = rw (ek, eq) (s .accepted .covered)

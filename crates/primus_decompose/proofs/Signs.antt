@@ -20,9 +20,9 @@ use Rattle.scheme.specs.Walk.{adjusted}
 use Rattle.scheme.proofs.Integers.{_⊖_, ⊖-ind, ⊖-eq, diff}
 use Rattle.scheme.proofs.Window.{reading-rest, rounding-rest}
 use Rattle.primus_reduce.specs.Ring.{meant, sizeOf}
-use Rattle.primus_decompose.specs.declared.primitive.params.PreparedBasis.{PreparedBasis}
+use Rattle.primus_decompose.specs.declared.primitive.prepared.PreparedBasis.{PreparedBasis}
 use Rattle.primus_decompose.specs.declared.primitive.basis.ValueCarry.{ValueCarry}
-use Rattle.primus_decompose.specs.Params.{Ready, basisIn, initOf}
+use Rattle.primus_decompose.specs.Prepared.{Ready, basisIn, initOf}
 use Rattle.primus_decompose.specs.Answers.{readingOf}
 
 difference : (a b : ℕ) → pos a -ℤ pos b ≡ a ⊖ b

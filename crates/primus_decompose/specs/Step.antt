@@ -25,4 +25,7 @@ stepTo d z k =
     }
 
 unfoldable pub stepOf : SignedDecomposer → Step
-stepOf d = stepTo d (windowDigit 32 (d .«log_basis») (d .«modulus_minus_basis») (windowOf d)) (windowCarry (d .«log_basis») (windowOf d))
+stepOf d =
+    stepTo d
+    (windowDigit 32 (d .«log_basis») (d .«modulus_minus_basis») (windowOf d))
+    (windowCarry (d .«log_basis») (windowOf d))

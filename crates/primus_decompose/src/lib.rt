@@ -10,7 +10,6 @@ pub use error::DecompositionBaseLogAnswer;
 pub use error::PreparedBasisAnswer;
 pub use error::ReadingAnswer;
 pub use error::ValueCarryAnswer;
-pub use error::WordAnswer;
 pub use numbers::basis_for;
 pub use numbers::levels_for;
 pub use parameters::DecompositionBaseLog;

@@ -2,7 +2,6 @@
 ghost use mathlib.Core.Path.{_≡_};
 ghost use Rattle.primus_decompose.specs.Answers.{levelsFor, made};
 use crate::error::ApproxSignedBasisAnswer;
-use crate::error::DecompositionBaseLogAnswer;
 use crate::parameters::DecompositionBaseLog;
 use crate::parameters::DecompositionLevelCount;
 use crate::parameters::RetainedLevels;
@@ -19,12 +18,9 @@ pub fn levels_for(n: u32) -> RetainedLevels
     RetainedLevels::Count(DecompositionLevelCount::new(n as usize))
 }
 
-// Check 1 is the base log's own. Refuses by 1 to 5.
+// Refuses by 1 to 5.
 pub fn basis_for(modulus: Modulus, log: u32, levels: RetainedLevels) -> ApproxSignedBasisAnswer
     ensures { λ r. ⌜ r ≡ made modulus log levels ⌝ }
 {
-    match DecompositionBaseLog::try_new(log) {
-        DecompositionBaseLogAnswer::Accepted(b) => ApproxSignedBasis::try_new(modulus, b, levels),
-        DecompositionBaseLogAnswer::Refused(n) => ApproxSignedBasisAnswer::Refused(n),
-    }
+    ApproxSignedBasis::try_new(modulus, DecompositionBaseLog::given(log), levels)
 }

@@ -1,10 +1,12 @@
 // The units of a decomposition: distinct kinds, as in the Rust.
 ghost use mathlib.Core.Path.{_≡_};
-ghost use Rattle.scheme.specs.Checks.{baseLogFails};
+ghost use Prim.Native.Nat.{_*_};
+ghost use Rattle.scheme.specs.Checks.{baseLogFails, lengthFails};
 ghost use Rattle.primus_decompose.specs.Answers.{baseLogAnswer, basisAnswer};
 use crate::error::ApproxSignedBasisAnswer;
 use crate::error::DecompositionBaseLogAnswer;
 use crate::primitive::ApproxSignedBasis;
+use checks::Sizes;
 use primus_reduce::Modulus;
 
 // Base-2 logarithm of the gadget radix B.
@@ -26,10 +28,20 @@ impl DecompositionBaseLog {
     pub fn try_new(log_basis: u32) -> DecompositionBaseLogAnswer
         ensures { λ r. ⌜ r ≡ baseLogAnswer «log_basis» ⌝ }
     {
-        if base_log_refused(log_basis) {
-            return DecompositionBaseLogAnswer::Refused(1);
+        let mut s = Sizes::NONE;
+        s.base_log = base_log_refused(log_basis);
+        let r = s.first();
+        if r != 0 {
+            return DecompositionBaseLogAnswer::Refused(r);
         }
         DecompositionBaseLogAnswer::Accepted(DecompositionBaseLog(log_basis))
+    }
+
+    // Any number, as a caller gives it: the calls judge it by 1, in its place in the order.
+    pub fn given(log_basis: u32) -> DecompositionBaseLog
+        ensures { λ r. ⌜ r .0 ≡ «log_basis» ⌝ }
+    {
+        DecompositionBaseLog(log_basis)
     }
 
     pub fn get(self) -> u32
@@ -53,6 +65,13 @@ impl DecompositionLevelCount {
         ensures { λ r. ⌜ r ≡ self .0 ⌝ }
     {
         self.0
+    }
+
+    // 11: `len` is not L runs of `width`.
+    pub(crate) fn runs_differ(self, len: usize, width: usize) -> bool
+        ensures { λ r. ⌜ r ≡ lengthFails len (self .0 * width) ⌝ }
+    {
+        checks::runs_differ(len, self.0, width)
     }
 }
 

@@ -1,7 +1,7 @@
 // Decomposition of words of 32 bits.
 mod basis;
 mod common;
-mod params;
+mod prepared;
 mod reading;
 mod slice;
 
@@ -10,4 +10,4 @@ pub use basis::Reading;
 pub use basis::ValueCarry;
 pub use common::SignedDecomposer;
 pub use common::Step;
-pub use params::PreparedBasis;
+pub use prepared::PreparedBasis;

@@ -155,3 +155,41 @@ pick-by R x y z f = go (eqb R 0) refl
 pub writes-by : {A : Type 0} {rows : List Check} {result before after other : List A} {r : ℕ} → (refusal rows ≡ 0 → result ≡ other)
     → Writes rows result before r after → Writes rows other before r after
 writes-by {rows = rows} {before = before} f w = record { answered = w .answered; holds = w .holds ∙ pick-by (refusal rows) _ _ before f }
+
+-- ---- rows joined
+
+-- no row has this number
+abbrev pub away : ℕ → List Check → Bool
+away k [] = true
+away k (c ∷ cs) = not (eqb (c .number) k) && away k cs
+
+-- rows of other numbers change nothing
+pub applies-away : (rows more : List Check) (k : ℕ) → T (away k more) → applies (rows ++ more) k ≡ applies rows k
+applies-away [] [] k t = refl
+applies-away [] (d ∷ ds) k t =
+    let y = and-yes (not (eqb (d .number) k)) (away k ds) t in
+    go (eqb (d .number) k) (y .0) (applies-away [] ds k (y .1))
+  where
+    go : (b : Bool) → T (not b) → applies ds k ≡ false → pick b (applies ds k || d .fails) (applies ds k) ≡ false
+    go true t e = absurd t
+    go false t e = e
+applies-away (c ∷ cs) more k t =
+    ap (λ b. pick (eqb (c .number) k) (b || c .fails) b) (applies-away cs more k t)
+
+applies-part : (rows more : List Check) (k : ℕ) → applies (rows ++ more) k ≡ false → applies rows k ≡ false
+applies-part [] more k e = refl
+applies-part (c ∷ cs) more k e = go (eqb (c .number) k) e (applies-part cs more k)
+  where
+    go : (b : Bool) → pick b (applies (cs ++ more) k || c .fails) (applies (cs ++ more) k) ≡ false
+        → (applies (cs ++ more) k ≡ false → applies cs k ≡ false) → pick b (applies cs k || c .fails) (applies cs k) ≡ false
+    go true e rest = let n = neither (c .fails) (applies (cs ++ more) k) e in rw (rest (n .1), n .0)
+    go false e rest = rest e
+
+-- where a call has no refusal, the rows that it begins with have none
+pub passed-part : (rows more : List Check) → refusal (rows ++ more) ≡ 0 → refusal rows ≡ 0
+unfolding refusal firstIn
+passed-part rows more e = zero order (none (applies (rows ++ more)) order tt e)
+  where
+    zero : (ks : List ℕ) → None (applies (rows ++ more)) ks → firstIn (applies rows) ks ≡ 0
+    zero [] p = refl
+    zero (k ∷ ks) p = rw (applies-part rows more k (p .0)) (zero ks (p .1))

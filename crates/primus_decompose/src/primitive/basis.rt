@@ -4,24 +4,30 @@ ghost use Prim.Native.Nat.{_+_, _*_, _^_, _<_, _≤_};
 ghost use Rattle.scheme.specs.Numbers.{tabulate};
 ghost use Rattle.scheme.specs.Modulus.{bits};
 ghost use Rattle.scheme.specs.Basis.{bound, dropped};
-ghost use Rattle.scheme.specs.Checks.{firstOf};
+ghost use Rattle.scheme.specs.Checks.{refusal};
 ghost use Rattle.primus_reduce.specs.Ring.{meant, powerOfTwo};
-ghost use Rattle.primus_decompose.specs.Answers.{levelCount, basisAnswer, basis, rows, baseWord, thresholdAnswer, wordRefusal, initAnswer, decomposerAnswer, weightWord, scalarAt, preparedAnswer, WhereReady};
-ghost use Rattle.primus_decompose.specs.Params.{Ready, basisIn};
+ghost use Rattle.checks.specs.Judged.{JudgesSizes};
+ghost use Rattle.primus_decompose.specs.Answers.{levelCount, basisFrom, basisWith, basisAnswer, basis, rows};
+ghost use Rattle.primus_decompose.specs.Answers.{baseWord, weightWord, scalarAt, thresholdAnswer, preparedBy};
+ghost use Rattle.primus_decompose.specs.Answers.{preparedAnswer, WhereReady, wordRows, initAnswer, decomposerAnswer};
+ghost use Rattle.primus_decompose.specs.Answers.{sliceRows};
+ghost use Rattle.primus_decompose.specs.Prepared.{Ready};
 use crate::error::ApproxSignedBasisAnswer;
 use crate::error::DecomposerAnswer;
 use crate::error::PreparedBasisAnswer;
 use crate::error::ValueCarryAnswer;
-use crate::error::WordAnswer;
+use crate::numbers;
 use crate::parameters::DecompositionBaseLog;
 use crate::parameters::DecompositionLevelCount;
 use crate::parameters::RetainedLevels;
-use crate::primitive::params;
-use crate::primitive::params::PreparedBasis;
+use crate::primitive::prepared;
+use crate::primitive::prepared::PreparedBasis;
+use checks::Sizes;
+use checks::Values;
+use checks::WordAnswer;
 use primus_reduce::Modulus;
 
-// A basis that try_new accepted: the fields are private, so there is no other. The calls judge it again all the same, so that
-// their promises hold of every value.
+// Three numbers, judged by 1 to 5 by every call that takes them.
 pub struct ApproxSignedBasis {
     modulus: Modulus,
     log_basis: DecompositionBaseLog,
@@ -45,7 +51,7 @@ fn level_count_of(modulus: Modulus, log: u32, level_count: RetainedLevels) -> us
     ensures { λ r. ⌜ r ≡ levelCount modulus log «level_count» ⌝ }
 {
     match level_count {
-        RetainedLevels::Full => params::full_count(modulus.value_bits(), log),
+        RetainedLevels::Full => prepared::full_count(modulus.value_bits(), log),
         RetainedLevels::Count(n) => n.get(),
     }
 }
@@ -59,17 +65,38 @@ impl ApproxSignedBasis {
     ) -> ApproxSignedBasisAnswer
         ensures { λ r. ⌜ r ≡ basisAnswer modulus «log_basis» «level_count» ⌝ }
     {
-        let log = log_basis.get();
-        let levels = level_count_of(modulus, log, level_count);
-        let r = params::basis_refusal(modulus, log, levels);
+        let b = ApproxSignedBasis::of(modulus, log_basis, level_count);
+        let r = b.refusal();
         if r != 0 {
             return ApproxSignedBasisAnswer::Refused(r);
         }
-        ApproxSignedBasisAnswer::Accepted(ApproxSignedBasis {
+        ApproxSignedBasisAnswer::Accepted(b)
+    }
+
+    // Any numbers, as a caller gives them, levels 0 left open: the calls judge them by 1 to 5.
+    pub fn given(modulus: Modulus, base_log: u32, levels: u32) -> ApproxSignedBasis
+        ensures { λ r. ⌜ r ≡ basisWith modulus «base_log» levels ⌝ }
+    {
+        ApproxSignedBasis::of(
+            modulus,
+            DecompositionBaseLog::given(base_log),
+            numbers::levels_for(levels),
+        )
+    }
+
+    fn of(
+        modulus: Modulus,
+        log_basis: DecompositionBaseLog,
+        level_count: RetainedLevels,
+    ) -> ApproxSignedBasis
+        ensures { λ r. ⌜ r ≡ basisFrom modulus «log_basis» «level_count» ⌝ }
+    {
+        let levels = level_count_of(modulus, log_basis.get(), level_count);
+        ApproxSignedBasis {
             modulus,
             log_basis,
             level_count: DecompositionLevelCount::new(levels),
-        })
+        }
     }
 
     // q
@@ -112,7 +139,7 @@ impl ApproxSignedBasis {
         ensures { λ r. ⌜ r ≡ baseWord self ⌝ }
     {
         let log = self.log_basis;
-        params::power_word(log.get() as u64)
+        prepared::power_word(log.get() as u64)
     }
 
     // d
@@ -121,14 +148,14 @@ impl ApproxSignedBasis {
     {
         let log = self.log_basis;
         let levels = self.level_count;
-        params::drop_bits(self.value_bits(), log.get(), levels.get())
+        prepared::drop_bits(self.value_bits(), log.get(), levels.get())
     }
 
     // H
     pub fn approximate_error_bound(self) -> u32
         ensures { λ r. ⌜ r ≡ bound (basis self) ⌝ }
     {
-        params::error_bound(self.drop_bits())
+        prepared::error_bound(self.drop_bits())
     }
 
     // The weights 2^d × B^j for j below L, as words; 0 above.
@@ -160,7 +187,7 @@ impl ApproxSignedBasis {
         if r != 0 {
             return ValueCarryAnswer::Refused(r);
         }
-        ValueCarryAnswer::Ready(params::init(self.prepared(), value))
+        ValueCarryAnswer::Ready(prepared::init(self.prepared(), value))
     }
 
     // The decomposer of a word, before its lowest level. Refuses by 1 to 5, 14.
@@ -171,7 +198,7 @@ impl ApproxSignedBasis {
         if r != 0 {
             return DecomposerAnswer::Refused(r);
         }
-        DecomposerAnswer::Ready(params::decomposer(self.prepared(), value))
+        DecomposerAnswer::Ready(prepared::decomposer(self.prepared(), value))
     }
 
     // The basis with its constants, for many words. Refuses by 1 to 5.
@@ -185,33 +212,64 @@ impl ApproxSignedBasis {
         PreparedBasisAnswer::Ready(self.prepared())
     }
 
-    // The first of 1 to 5 that applies, or 0.
-    pub fn refusal(self) -> u32
-        ensures { λ r. ⌜ r ≡ firstOf (rows self) ⌝ }
+    // 1 to 5, each in its field: a call that takes a basis sets its own fields on top.
+    pub fn sizes(self) -> Sizes
+        ensures { λ s. ⌜ JudgesSizes (rows self) s ⌝ }
     {
         let modulus = self.modulus;
         let log = self.log_basis;
         let levels = self.level_count;
-        params::basis_refusal(modulus, log.get(), levels.get())
+        prepared::basis_sizes(modulus, log.get(), levels.get())
+    }
+
+    // The first of 1 to 5 that applies, or 0.
+    pub fn refusal(self) -> u32
+        ensures { λ r. ⌜ r ≡ refusal (rows self) ⌝ }
+    {
+        let s = self.sizes();
+        s.first()
     }
 
     // 1 to 5, 14
     pub(crate) fn word_refusal(self, value: u32) -> u32
-        ensures { λ r. ⌜ r ≡ wordRefusal self value ⌝ }
+        ensures { λ r. ⌜ r ≡ refusal (wordRows self value) ⌝ }
     {
+        let s = self.sizes();
+        let r = s.first();
+        if r != 0 {
+            return r;
+        }
         let modulus = self.modulus;
-        let r = self.refusal();
-        checks::refuse(r, checks::word_refused(modulus, value), 14)
+        let mut v = Values::NONE;
+        v.word = checks::word_refused(modulus, value);
+        v.first()
+    }
+
+    // 1 to 5, 11, 14
+    pub(crate) fn slice_refusal(self, values: &[u32], room: usize) -> u32
+        ensures { λ r. ⌜ r ≡ refusal (sliceRows self (now (values .entry)) room) ⌝ }
+    {
+        let levels = self.level_count;
+        let mut s = self.sizes();
+        s.output = levels.runs_differ(room, values.len());
+        let r = s.first();
+        if r != 0 {
+            return r;
+        }
+        let modulus = self.modulus;
+        let mut v = Values::NONE;
+        v.word = checks::words_refused(modulus, values);
+        v.first()
     }
 
     pub(crate) fn prepared(self) -> PreparedBasis
-        requires { ⌜ firstOf (rows self) ≡ 0 ⌝ }
-        ensures { λ r. ⌜ Ready r × (basisIn r ≡ basis self) × (r .modulus ≡ self .modulus) × (r .«level_count» ≡ self .«level_count» .0) ⌝ }
+        requires { ⌜ refusal (rows self) ≡ 0 ⌝ }
+        ensures { λ r. ⌜ Ready r × (r ≡ preparedBy self) ⌝ }
     {
         let modulus = self.modulus;
         let log = self.log_basis;
         let levels = self.level_count;
-        params::prepare(modulus, log.get(), levels.get())
+        prepared::prepare(modulus, log.get(), levels.get())
     }
 }
 
@@ -235,5 +293,5 @@ fn scalar(d: u32, log: u32, levels: usize, j: usize) -> u32
     if levels <= j {
         return 0;
     }
-    params::power_word(d as u64 + j as u64 * log as u64)
+    prepared::power_word(d as u64 + j as u64 * log as u64)
 }

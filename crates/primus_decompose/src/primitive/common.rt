@@ -69,8 +69,8 @@ fn is_basis(v: u64, log: u32) -> bool
 }
 
 impl SignedDecomposer {
-    // One level: a window below B/2 is its digit. From B/2 on it stands for B less, stored as q − B more, with a carry;
-    // at B the digit is 0.
+    // One level: a window below B/2 is its digit. From B/2 on it stands for B less, stored as q − B more,
+    // with a carry; at B the digit is 0.
     pub fn step(self) -> Step
         ensures { λ r. ⌜ r ≡ stepOf self ⌝ }
     {

@@ -6,12 +6,12 @@ ghost use lib.IntN.{pos, _-ℤ_};
 ghost use Rattle.scheme.specs.Numbers.{pick};
 ghost use Rattle.primus_reduce.specs.Ring.{sizeOf};
 ghost use Rattle.primus_decompose.specs.Answers.{readingOf, readingAnswer, signedDigit};
-ghost use Rattle.primus_decompose.specs.Params.{Ready, basisIn};
+ghost use Rattle.primus_decompose.specs.Prepared.{Ready, basisIn};
 use crate::error::ReadingAnswer;
 use crate::primitive::basis::ApproxSignedBasis;
 use crate::primitive::basis::Reading;
-use crate::primitive::params;
-use crate::primitive::params::PreparedBasis;
+use crate::primitive::prepared;
+use crate::primitive::prepared::PreparedBasis;
 
 // a − b
 fn minus(a: u64, b: u64) -> i64
@@ -34,9 +34,9 @@ fn read(p: PreparedBasis, a: u32) -> Reading
     ensures { λ r. ⌜ r ≡ readingOf (basisIn p) a ⌝ }
 {
     let modulus = p.modulus;
-    let s = params::init(p, a);
-    let bound = params::error_bound(p.drop_bits) as u64;
-    let rest = (s.value as u64 + bound) % params::power(p.drop_bits);
+    let s = prepared::init(p, a);
+    let bound = prepared::error_bound(p.drop_bits) as u64;
+    let rest = (s.value as u64 + bound) % prepared::power(p.drop_bits);
     let lost = lifted_by(a, p.threshold, modulus.size());
     Reading {
         reading: minus(a as u64 + bound, rest + lost),

@@ -3,7 +3,7 @@ use mathlib.Core.Path.{_≡_, refl, ap, sym, _∙_}
 use native.Mathlib.Omega.{arith}
 use lib.ListN.{length}
 use borrow.Author.Needs.{needs}
-use Rattle.primus_decompose.specs.Params.{basisIn}
+use Rattle.primus_decompose.specs.Prepared.{basisIn}
 use Rattle.primus_decompose.proofs.Columns.{Written, written-none, written-next, written-all}
 use Rattle.primus_decompose.proofs.primitive.slice.write_columns.Statement.{statement}
 use Rattle.primus_decompose.proofs.primitive.slice.write_columns.Tie as tie
