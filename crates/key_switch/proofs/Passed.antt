@@ -12,10 +12,10 @@ use Rattle.scheme.specs.Switch.{switchedBatch}
 use Rattle.scheme.specs.Checks.{batchFails}
 use Rattle.scheme.proofs.Checks.{passed, passed-append, length-ok, words-ok}
 use Rattle.primus_reduce.specs.Ring.{sizeOf}
-use Rattle.primus_decompose.specs.declared.primitive.params.PreparedBasis.{PreparedBasis}
+use Rattle.primus_decompose.specs.declared.primitive.prepared.PreparedBasis.{PreparedBasis}
 use Rattle.primus_decompose.specs.declared.error.PreparedBasisAnswer.the-variants as A
 use Rattle.primus_decompose.specs.Answers.{basis}
-use Rattle.primus_decompose.specs.Params.{Ready, basisIn, preparedOf}
+use Rattle.primus_decompose.specs.Prepared.{Ready, basisIn, preparedOf}
 use Rattle.key_switch_key.specs.declared.parameters.LweKeySwitchingParameters.{LweKeySwitchingParameters}
 use Rattle.key_switch_key.specs.declared.parameters.Sizes.{Sizes}
 use Rattle.key_switch_key.specs.Answers.{sizesOf, parameterRows}

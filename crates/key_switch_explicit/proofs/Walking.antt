@@ -16,9 +16,9 @@ use Rattle.scheme.proofs.Residue.{cong-trans, residue-cong}
 use Rattle.scheme.proofs.Switch.{is-batch}
 use Rattle.primus_reduce.specs.Ring.{sizeOf}
 use Rattle.primus_decompose.specs.declared.primitive.common.SignedDecomposer.{SignedDecomposer}
-use Rattle.primus_decompose.specs.declared.primitive.params.PreparedBasis.{PreparedBasis}
+use Rattle.primus_decompose.specs.declared.primitive.prepared.PreparedBasis.{PreparedBasis}
 use Rattle.primus_decompose.specs.Column.{stepDigit}
-use Rattle.primus_decompose.specs.Params.{basisIn}
+use Rattle.primus_decompose.specs.Prepared.{basisIn}
 use Rattle.key_switch_tile.specs.Rows.{Near}
 use Rattle.key_switch_tile.specs.Tile.{tile, lane, Place, PlaceRoom, Placed, Shaped, Lanes, begun, Reached}
 use Rattle.key_switch_tile.proofs.Lanes.{in-run}

@@ -4,7 +4,7 @@ ghost use Prim.Native.Nat.{_+_, _-_, _*_, _/_, _^_, _<_, _≤_};
 ghost use lib.ListN.{length};
 ghost use Rattle.primus_reduce.specs.declared.modulus.Modulus.the-variants.{Explicit};
 ghost use Rattle.scheme.specs.Switch.{switchedBatch};
-ghost use Rattle.primus_decompose.specs.Params.{basisIn};
+ghost use Rattle.primus_decompose.specs.Prepared.{basisIn};
 ghost use Rattle.key_switch_tile.specs.Tile.{tile, Level, LevelRoom, Leveled, Place, PlaceRoom, Placed};
 ghost use Rattle.key_switch_tile.specs.Tile.{Shaped, Reached, begun};
 

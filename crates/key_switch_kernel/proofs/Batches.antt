@@ -13,8 +13,8 @@ use Rattle.scheme.specs.Switch.{Below, switched, switchedBatch}
 use Rattle.scheme.proofs.Rows.{Filling, filling-start, filling-group, filling-end, rows-ext, part-of-part}
 use Rattle.scheme.proofs.Switch.{state-length}
 use Rattle.primus_reduce.specs.Ring.{sizeOf}
-use Rattle.primus_decompose.specs.declared.primitive.params.PreparedBasis.{PreparedBasis}
-use Rattle.primus_decompose.specs.Params.{basisIn}
+use Rattle.primus_decompose.specs.declared.primitive.prepared.PreparedBasis.{PreparedBasis}
+use Rattle.primus_decompose.specs.Prepared.{basisIn}
 use Rattle.key_switch_tile.specs.Tile.{tile, Shaped}
 
 -- words below q, in a part too

@@ -3,7 +3,7 @@ ghost use mathlib.Core.Path.{_≡_};
 ghost use Prim.Native.Nat.{_+_, _*_, _≤_, min};
 ghost use lib.ListN.{length};
 ghost use Rattle.scheme.specs.Switch.{switchedBatch};
-ghost use Rattle.primus_decompose.specs.Params.{basisIn};
+ghost use Rattle.primus_decompose.specs.Prepared.{basisIn};
 ghost use Rattle.key_switch_tile.specs.Tile.{tile, Shaped};
 use key_switch_tile::TILE;
 use primus_decompose::PreparedBasis;

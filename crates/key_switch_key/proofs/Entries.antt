@@ -25,10 +25,10 @@ use Rattle.scheme.proofs.Switch.{encrypted-cong, entry-length}
 use Rattle.scheme.proofs.Checks.{passed, passed-append, length-ok}
 use Rattle.primus_reduce.specs.Ring.{sizeOf, modulo}
 use Rattle.primus_reduce.specs.declared.modulus.Modulus.{Modulus}
-use Rattle.primus_decompose.specs.declared.primitive.params.PreparedBasis.{PreparedBasis}
+use Rattle.primus_decompose.specs.declared.primitive.prepared.PreparedBasis.{PreparedBasis}
 use Rattle.primus_decompose.specs.declared.primitive.basis.ApproxSignedBasis.{ApproxSignedBasis}
 use Rattle.primus_decompose.specs.Answers.{basis, rows, weightWord}
-use Rattle.primus_decompose.specs.Params.{Ready, basisIn, preparedOf}
+use Rattle.primus_decompose.specs.Prepared.{Ready, basisIn, preparedOf}
 use Rattle.primus_lwe.specs.declared.parameter.LweEncryptionParameters.{LweEncryptionParameters}
 use Rattle.primus_lwe.specs.Answers.{encryptRows, encryptRefusal}
 use Rattle.primus_lwe.proofs.Laws.{modulo-stands, none-fails}

@@ -14,11 +14,11 @@ use Rattle.scheme.specs.Switch.{entryOf}
 use Rattle.scheme.specs.Checks.{row, firstOf, dimensionFails, lengthFails}
 use Rattle.scheme.proofs.Checks.{passed, passed-append, dimension-ok, length-ok}
 use Rattle.primus_decompose.specs.declared.primitive.basis.ApproxSignedBasis.{ApproxSignedBasis}
-use Rattle.primus_decompose.specs.declared.primitive.params.PreparedBasis.{PreparedBasis}
+use Rattle.primus_decompose.specs.declared.primitive.prepared.PreparedBasis.{PreparedBasis}
 use Rattle.primus_decompose.specs.declared.error.PreparedBasisAnswer.{PreparedBasisAnswer}
 use Rattle.primus_decompose.specs.declared.error.PreparedBasisAnswer.the-variants as A
 use Rattle.primus_decompose.specs.Answers.{basis, rows, preparedAnswer}
-use Rattle.primus_decompose.specs.Params.{Ready, preparedOf}
+use Rattle.primus_decompose.specs.Prepared.{Ready, preparedOf}
 use Rattle.key_switch_key.specs.declared.parameters.LweKeySwitchingParameters.{LweKeySwitchingParameters}
 use Rattle.key_switch_key.specs.declared.parameters.Sizes.{Sizes}
 use Rattle.key_switch_key.specs.Answers.{sizesOf, parameterRows, keyRefusal, entryMissing, entryAnswer}

@@ -12,7 +12,7 @@ use Rattle.scheme.specs.Checks.{Check, row, firstOf, dimensionFails, modulusFai
 use Rattle.primus_reduce.specs.Ring.{meant, sizeOf}
 use Rattle.primus_lwe.specs.declared.parameter.LweEncryptionParameters.{LweEncryptionParameters}
 use Rattle.scheme.specs.Basis.{weight}
-use Rattle.primus_decompose.specs.declared.primitive.params.PreparedBasis.{PreparedBasis}
+use Rattle.primus_decompose.specs.declared.primitive.prepared.PreparedBasis.{PreparedBasis}
 use Rattle.primus_reduce.specs.declared.modulus.Modulus.{Modulus}
 use Rattle.primus_decompose.specs.declared.error.ApproxSignedBasisAnswer.{ApproxSignedBasisAnswer}
 use Rattle.primus_decompose.specs.declared.error.ApproxSignedBasisAnswer.the-variants as B
@@ -22,7 +22,7 @@ use Rattle.primus_decompose.specs.Answers.{rows, made}
 use Rattle.primus_lattice.specs.declared.dimension.LweDimensionAnswer.{LweDimensionAnswer}
 use Rattle.primus_lattice.specs.declared.dimension.LweDimensionAnswer.the-variants as D
 use Rattle.primus_lattice.specs.Answers.{dimensionAnswer}
-use Rattle.primus_decompose.specs.Params.{Ready, basisIn}
+use Rattle.primus_decompose.specs.Prepared.{Ready, basisIn}
 use Rattle.key_switch_key.specs.declared.parameters.LweKeySwitchingParameters.{LweKeySwitchingParameters}
 use Rattle.key_switch_key.specs.declared.parameters.LweKeySwitchingParametersAnswer.{LweKeySwitchingParametersAnswer}
 use Rattle.key_switch_key.specs.declared.parameters.LweKeySwitchingParametersAnswer.the-variants as A

@@ -9,7 +9,7 @@ ghost use Rattle.scheme.specs.Switch.{generated};
 ghost use Rattle.scheme.specs.Checks.{lengthFails, wordsFail, signedFail, Answers};
 ghost use Rattle.primus_reduce.specs.Ring.{sizeOf, modulo};
 ghost use Rattle.primus_decompose.specs.Answers.{basis};
-ghost use Rattle.primus_decompose.specs.Params.{basisIn};
+ghost use Rattle.primus_decompose.specs.Prepared.{basisIn};
 ghost use Rattle.key_switch_key.specs.Answers.{entryMissing, entryAnswer, generateRefusal, Generable, EntryReady};
 use crate::parameters;
 use crate::parameters::LweKeySwitchingParameters;

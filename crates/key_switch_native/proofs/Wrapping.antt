@@ -10,8 +10,8 @@ use Rattle.scheme.proofs.Residue.{residue-cong, word-residue}
 use Rattle.scheme.proofs.Switch.{is-batch}
 use Rattle.primus_reduce.specs.Ring.{sizeOf}
 use Rattle.primus_decompose.specs.declared.primitive.common.SignedDecomposer.{SignedDecomposer}
-use Rattle.primus_decompose.specs.declared.primitive.params.PreparedBasis.{PreparedBasis}
-use Rattle.primus_decompose.specs.Params.{basisIn}
+use Rattle.primus_decompose.specs.declared.primitive.prepared.PreparedBasis.{PreparedBasis}
+use Rattle.primus_decompose.specs.Prepared.{basisIn}
 use Rattle.key_switch_tile.specs.Tile.{Shaped, Lanes, Placed, begun, Reached}
 use Rattle.key_switch_tile.proofs.Walks.{q-pos, reached-start, reached-next, reached-all}
 

@@ -5,7 +5,7 @@ ghost use Prim.Native.Nat.{_+_, _-_, _*_, _%_, _^_, _≤_};
 ghost use lib.ListN.{length};
 ghost use Rattle.scheme.specs.Switch.{switchedBatch};
 ghost use Rattle.primus_reduce.specs.declared.modulus.Modulus.the-variants.{Native};
-ghost use Rattle.primus_decompose.specs.Params.{basisIn};
+ghost use Rattle.primus_decompose.specs.Prepared.{basisIn};
 ghost use Rattle.key_switch_tile.specs.Rows.{Less};
 ghost use Rattle.key_switch_tile.specs.Tile.{tile, Level, Leveled, Place, Placed, Shaped, begun};
 use key_switch_tile::TILE;

@@ -16,8 +16,8 @@ use Rattle.scheme.specs.Switch.{startWord}
 use Rattle.scheme.proofs.Lists.{getD-tabulate, length-tabulate}
 use Rattle.scheme.proofs.Rows.{Filling, filling-start, filling-next, part-at}
 use Rattle.primus_decompose.specs.declared.primitive.common.SignedDecomposer.{SignedDecomposer}
-use Rattle.primus_decompose.specs.declared.primitive.params.PreparedBasis.{PreparedBasis}
-use Rattle.primus_decompose.specs.Params.{decomposerFrom}
+use Rattle.primus_decompose.specs.declared.primitive.prepared.PreparedBasis.{PreparedBasis}
+use Rattle.primus_decompose.specs.Prepared.{decomposerFrom}
 use Rattle.key_switch_tile.specs.Tile.{tile, lane, Lanes}
 
 -- word k of row t lies in the run

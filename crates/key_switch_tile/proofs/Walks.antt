@@ -27,9 +27,9 @@ use Rattle.scheme.proofs.Stored.{stored-cong}
 use Rattle.scheme.proofs.Switch.{after-start, after-next}
 use Rattle.primus_reduce.specs.Ring.{sizeOf}
 use Rattle.primus_decompose.specs.declared.primitive.common.SignedDecomposer.{SignedDecomposer}
-use Rattle.primus_decompose.specs.declared.primitive.params.PreparedBasis.{PreparedBasis}
+use Rattle.primus_decompose.specs.declared.primitive.prepared.PreparedBasis.{PreparedBasis}
 use Rattle.primus_decompose.specs.Column.{stepDigit}
-use Rattle.primus_decompose.specs.Params.{basisIn, decomposerOf}
+use Rattle.primus_decompose.specs.Prepared.{basisIn, decomposerOf}
 use Rattle.primus_decompose.proofs.Columns.{step-digits}
 use Rattle.primus_decompose.proofs.Constants.{decomposer-ready}
 use Rattle.key_switch_tile.specs.Rows.{Near}

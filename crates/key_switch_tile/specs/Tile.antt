@@ -10,10 +10,10 @@ use Rattle.scheme.specs.Lwe.{rowOf}
 use Rattle.scheme.specs.Switch.{Below, startWord, after}
 use Rattle.primus_reduce.specs.Ring.{sizeOf}
 use Rattle.primus_decompose.specs.declared.primitive.common.SignedDecomposer.{SignedDecomposer}
-use Rattle.primus_decompose.specs.declared.primitive.params.PreparedBasis.{PreparedBasis}
+use Rattle.primus_decompose.specs.declared.primitive.prepared.PreparedBasis.{PreparedBasis}
 use Rattle.primus_decompose.specs.Step.{stepOf}
 use Rattle.primus_decompose.specs.Column.{stepDigit}
-use Rattle.primus_decompose.specs.Params.{Ready, basisIn, decomposerFrom}
+use Rattle.primus_decompose.specs.Prepared.{Ready, basisIn, decomposerFrom}
 use Rattle.key_switch_tile.specs.Rows.{Near}
 
 -- the most rows of a tile

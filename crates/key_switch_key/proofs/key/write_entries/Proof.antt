@@ -5,7 +5,7 @@ use Rattle.scheme.specs.Lwe.{words, signed}
 use Rattle.scheme.specs.Switch.{generatedEntry}
 use Rattle.scheme.proofs.Residue.{cong-refl}
 use Rattle.scheme.proofs.Rows.{Filling}
-use Rattle.primus_decompose.specs.Params.{basisIn}
+use Rattle.primus_decompose.specs.Prepared.{basisIn}
 use Rattle.key_switch_key.proofs.Entries.{levels-some, generating-start, generating-end, place-in, level-in, entry-ready, generating-on}
 use Rattle.key_switch_key.proofs.key.write_entries.Statement.{statement}
 use Rattle.key_switch_key.proofs.key.write_entries.Tie as tie

@@ -4,7 +4,7 @@ use lib.ListN.{length}
 use Rattle.scheme.specs.Lwe.{words, signed}
 use Rattle.scheme.specs.Switch.{generatedEntry}
 use Rattle.scheme.proofs.Rows.{Filling}
-use Rattle.primus_decompose.specs.Params.{basisIn}
+use Rattle.primus_decompose.specs.Prepared.{basisIn}
 use Rattle.key_switch_key.proofs.Entries.{levels-some, generating-start, generating-end, place-in, level-in, entry-ready, generating-on, signed-stands}
 use Rattle.key_switch_key.proofs.key.write_entries_signed.Statement.{statement}
 use Rattle.key_switch_key.proofs.key.write_entries_signed.Tie as tie
