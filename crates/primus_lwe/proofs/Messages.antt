@@ -11,7 +11,7 @@ use lib.IntN.{ℤ, pos, _-ℤ_}
 use lib.ListN.{length, getD}
 use borrow.Author.Tests.{ltb-false, lt-leb, eqb-true, not-false}
 use Rattle.scheme.specs.Numbers.{residue}
-use Rattle.scheme.specs.Lwe.{phaseOf, inner, rotated, packedPhase}
+use Rattle.scheme.specs.Lwe.{rotated, packedPhase}
 use Rattle.scheme.specs.Checks.{firstOf, codecRows, codecRefusal, modulusFails, plaintextFails, smallFails, batchFails, wordsFail, messageFails}
 use Rattle.scheme.proofs.Residue.{residue-lt}
 use Rattle.scheme.proofs.Checks.{passed, modulus-ok, length-ok, words-ok, packed-ok}
@@ -20,14 +20,13 @@ use Rattle.primus_reduce.specs.declared.modulus.Modulus.{Modulus}
 use Rattle.primus_encoding.specs.Answers.{encodeRows, decodeRows}
 use Rattle.primus_lwe.specs.declared.parameter.LweEncryptionParameters.{LweEncryptionParameters}
 use Rattle.primus_lwe.specs.declared.parameter.LweParameters.{LweParameters}
-use Rattle.primus_lwe.specs.Answers.{Packable, Coding, Opening, Run, Rowwise, packedMessageRows, packedMessageRefusal, packedOpenRows, packedOpenRefusal, batchRows, batchRefusal, batchPhaseRows, batchPhaseRefusal, batchOpenRows, batchOpenRefusal}
-use Rattle.primus_lwe.proofs.Laws.{none-fails, PhasablePacked}
+use Rattle.primus_lwe.specs.Answers.{Coding, Opening, Run}
+use Rattle.primus_lwe.specs.Packed.{Packable, packedMessageRows, packedMessageRefusal, packedOpenRows, packedOpenRefusal}
+use Rattle.primus_lwe.specs.Batch.{Rowwise, batchRows, batchRefusal, batchPhaseRows, batchPhaseRefusal, batchOpenRows, batchOpenRefusal}
+use Rattle.primus_lwe.proofs.Coded.{none-fails}
+use Rattle.primus_lwe.proofs.PackedLaws.{PhasablePacked}
 
 -- a phase is a word
-pub phase-below : (q n : ℕ) (x : List ℕ) (s : ℕ → ℤ) (p : ℕ) → 0 < q → p ≡ phaseOf q n x s → p < q
-unfolding phaseOf
-phase-below q n x s p h e = rw e (residue-lt (pos (getD x n 0) -ℤ inner n x s) q h)
-
 pub packed-below : (q n : ℕ) (x : List ℕ) (s : ℕ → ℤ) (i p : ℕ) → 0 < q → p ≡ packedPhase q n x s i → p < q
 unfolding packedPhase
 packed-below q n x s i p h e = rw e (residue-lt (pos (getD x (n + i) 0) -ℤ rotated n x s i) q h)

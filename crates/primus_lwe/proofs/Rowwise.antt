@@ -28,8 +28,10 @@ use Rattle.primus_encoding.specs.Answers.{encodeRows}
 use Rattle.primus_lwe.specs.declared.parameter.LweEncryptionParameters.{LweEncryptionParameters}
 use Rattle.primus_lwe.specs.declared.parameter.LweParameters.{LweParameters}
 use Rattle.primus_reduce.specs.declared.modulus.Modulus.{Modulus}
-use Rattle.primus_lwe.specs.Answers.{plusTimes, startWord, Public, Run, generateRows, generateRefusal, publicRows, publicRefusal, publicMessageRows, publicMessageRefusal}
-use Rattle.primus_lwe.proofs.Laws.{modulo-stands, none-fails}
+use Rattle.primus_lwe.specs.Answers.{Run}
+use Rattle.primus_lwe.specs.Public.{plusTimes, startWord, Public, generateRows, generateRefusal, publicRows, publicRefusal, publicMessageRows, publicMessageRefusal}
+use Rattle.primus_lwe.proofs.Laws.{modulo-stands}
+use Rattle.primus_lwe.proofs.Coded.{none-fails}
 use Rattle.scheme.specs.Checks.{firstOf}
 
 modulo-plain : (q : ℕ) (z : ℤ) → 0 < q → modulo q z ≡ residue z q

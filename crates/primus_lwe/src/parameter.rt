@@ -1,23 +1,24 @@
-// What encryption is set up with. The constructors judge it at once; every call judges it again, in its own order of numbers.
+// What encryption is set up with. The constructors judge it at once; every call judges it again, with what it is lent.
 ghost use mathlib.Core.Path.{_≡_};
-ghost use Rattle.primus_lwe.specs.Answers.{encryptionParametersAnswer, parametersAnswer};
+ghost use Rattle.checks.specs.Judged.{JudgesSizes};
+ghost use Rattle.primus_lwe.specs.Answers.{encryptionParametersRows, encryptionParametersAnswer, parametersRows, parametersAnswer};
+use checks::Sizes;
 use primus_lattice::LweDimension;
-use primus_lattice::dimension_refused;
 use primus_reduce::Modulus;
 
 // Dimension n, modulus q and the limit E of errors.
 pub struct LweEncryptionParameters {
     pub dimension: LweDimension,
     pub modulus: Modulus,
-    pub bound: u32,
+    pub error_limit: u32,
 }
 
-// The same, and the plaintext modulus t.
+// Dimension n, modulus q, plaintext modulus t and the limit E of errors.
 pub struct LweParameters {
     pub dimension: LweDimension,
     pub modulus: Modulus,
     pub plaintext_modulus: u32,
-    pub bound: u32,
+    pub error_limit: u32,
 }
 
 // The parameters, or the first number that applies.
@@ -32,64 +33,96 @@ pub enum LweParametersAnswer {
 }
 
 impl LweEncryptionParameters {
+    // 2, 6 and 13, for a call to add what it judges.
+    pub fn sizes(self) -> Sizes
+        ensures { λ r. ⌜ JudgesSizes (encryptionParametersRows self) r ⌝ }
+    {
+        let modulus = self.modulus;
+        let dimension = self.dimension;
+        let mut s = Sizes::NONE;
+        s.modulus = checks::modulus_refused(modulus);
+        s.dimension = dimension.refused();
+        s.error_limit = checks::bound_refused(self.error_limit, modulus);
+        s
+    }
+
     // Refuses by 2, 6, 13.
     pub fn try_new(
         dimension: LweDimension,
         modulus: Modulus,
-        bound: u32,
+        error_limit: u32,
     ) -> LweEncryptionParametersAnswer
-        ensures { λ r. ⌜ r ≡ encryptionParametersAnswer (record { dimension = dimension; modulus = modulus; bound = bound }) ⌝ }
+        ensures { λ r. ⌜ r ≡ encryptionParametersAnswer
+            (record { dimension = dimension; modulus = modulus; «error_limit» = «error_limit» }) ⌝ }
     {
-        let r = checks::refuse(0, checks::modulus_refused(modulus), 2);
-        let r = checks::refuse(r, dimension_refused(dimension.get()), 6);
-        let r = checks::refuse(r, checks::bound_refused(bound, modulus), 13);
+        let params = LweEncryptionParameters {
+            dimension,
+            modulus,
+            error_limit,
+        };
+        let r = params.sizes().first();
         if r != 0 {
             return LweEncryptionParametersAnswer::Refused(r);
         }
-        LweEncryptionParametersAnswer::Accepted(LweEncryptionParameters {
-            dimension,
-            modulus,
-            bound,
-        })
+        LweEncryptionParametersAnswer::Accepted(params)
     }
 }
 
 impl LweParameters {
+    // 2, 6, 7, 8 and 13, for a call to add what it judges.
+    pub fn sizes(self) -> Sizes
+        ensures { λ r. ⌜ JudgesSizes (parametersRows self) r ⌝ }
+    {
+        let modulus = self.modulus;
+        let dimension = self.dimension;
+        let t = self.plaintext_modulus;
+        let mut s = Sizes::NONE;
+        s.modulus = checks::modulus_refused(modulus);
+        s.dimension = dimension.refused();
+        s.plaintext = checks::plaintext_refused(t);
+        s.small = checks::small_refused(t, modulus);
+        s.error_limit = checks::bound_refused(self.error_limit, modulus);
+        s
+    }
+
     // Refuses by 2, 6, 7, 8, 13.
     pub fn try_new(
         dimension: LweDimension,
         modulus: Modulus,
         plaintext_modulus: u32,
-        bound: u32,
+        error_limit: u32,
     ) -> LweParametersAnswer
-        ensures { λ r. ⌜ r ≡ parametersAnswer (record { dimension = dimension; modulus = modulus; «plaintext_modulus» = «plaintext_modulus»; bound = bound }) ⌝ }
+        ensures { λ r. ⌜ r ≡ parametersAnswer (record {
+          dimension = dimension;
+          modulus = modulus;
+          «plaintext_modulus» = «plaintext_modulus»;
+          «error_limit» = «error_limit»;
+        }) ⌝ }
     {
-        let r = checks::refuse(0, checks::modulus_refused(modulus), 2);
-        let r = checks::refuse(r, dimension_refused(dimension.get()), 6);
-        let r = checks::refuse(r, checks::plaintext_refused(plaintext_modulus), 7);
-        let r = checks::refuse(r, checks::small_refused(plaintext_modulus, modulus), 8);
-        let r = checks::refuse(r, checks::bound_refused(bound, modulus), 13);
-        if r != 0 {
-            return LweParametersAnswer::Refused(r);
-        }
-        LweParametersAnswer::Accepted(LweParameters {
+        let params = LweParameters {
             dimension,
             modulus,
             plaintext_modulus,
-            bound,
-        })
+            error_limit,
+        };
+        let r = params.sizes().first();
+        if r != 0 {
+            return LweParametersAnswer::Refused(r);
+        }
+        LweParametersAnswer::Accepted(params)
     }
 
     // What encoded plaintexts need of them.
     pub fn encryption_parameters(self) -> LweEncryptionParameters
-        ensures { λ r. ⌜ r ≡ record { dimension = self .dimension; modulus = self .modulus; bound = self .bound } ⌝ }
+        ensures { λ r. ⌜ r ≡
+            record { dimension = self .dimension; modulus = self .modulus; «error_limit» = self .«error_limit» } ⌝ }
     {
         let dimension = self.dimension;
         let modulus = self.modulus;
         LweEncryptionParameters {
             dimension,
             modulus,
-            bound: self.bound,
+            error_limit: self.error_limit,
         }
     }
 }

@@ -5,16 +5,19 @@ ghost use Prim.Native.Nat.{_+_, _*_, _<_, _≤_};
 ghost use lib.IntN.{pos, negsuc, natAbs};
 ghost use lib.ListN.{length, getD};
 ghost use Rattle.scheme.specs.Numbers.{tabulate};
-ghost use Rattle.scheme.specs.Lwe.{words, signed, encryptedRows, publicKey, publicEncrypted};
+ghost use Rattle.scheme.specs.Lwe.{words, signed, signed as errorsOf, secretOf, encryptedRows, publicKey, publicEncrypted};
 ghost use Rattle.scheme.specs.Switch.{Below};
 ghost use Rattle.scheme.specs.Checks.{wordsFail, signedFail, Answers};
 ghost use Rattle.primus_reduce.specs.Ring.{sizeOf};
 ghost use Rattle.primus_encoding.specs.Answers.{encodeWord};
-ghost use Rattle.primus_lwe.specs.Answers.{Run, generateRefusal, publicRefusal, publicMessageRefusal, plusTimes, startWord, Public};
+ghost use Rattle.primus_lwe.specs.Key.{keyOf};
+ghost use Rattle.primus_lwe.specs.Answers.{Run};
+ghost use Rattle.primus_lwe.specs.Public.{generateRefusal, publicRefusal, publicMessageRefusal, plusTimes, startWord, Public};
 use crate::batch;
 use crate::parameter::LweEncryptionParameters;
 use crate::parameter::LweParameters;
-use crate::secret_key::borrowed;
+use crate::secret_key::KeyForm;
+use crate::secret_key::error_residue;
 use crate::secret_key::message;
 use primus_encoding::PlaintextEmbedding;
 use primus_lattice::dimension_refused;
@@ -23,34 +26,26 @@ use primus_reduce::Modulus;
 // Its words are lent: n rows of n + 1.
 pub struct LwePublicKey {}
 
-// A row of 0 for each error, under words.
-fn write_zeros(out: &mut [u32], secret: &[u32], masks: &[u32], errors: &[i32], modulus: Modulus)
-    requires { ⌜ Run (sizeOf modulus) (length (now secret)) (length (now masks)) (length (now errors)) (length (now out)) ⌝ }
-    ensures { λ _. ⌜ now (out .exit) ≡ encryptedRows (sizeOf modulus) (length (now (secret .entry))) (length (now (errors .entry))) (now (masks .entry)) (words (now (secret .entry))) (signed (now (errors .entry))) (λ i. pos 0) ⌝ }
-{
-    let mut i = 0;
-    while i < errors.len() {
-        let sum = batch::row_product(masks, secret, i, modulus);
-        batch::encrypt_row(out, masks, secret.len(), errors, i, sum, 0, modulus);
-        i += 1;
-    }
-}
-
-// The same under a signed key.
-fn write_zeros_signed(
+// A row of 0 for each error.
+fn write_zeros(
     out: &mut [u32],
-    secret: &[i32],
+    form: KeyForm,
+    words: &[u32],
+    signed: &[i32],
     masks: &[u32],
+    n: usize,
     errors: &[i32],
     modulus: Modulus,
 )
-    requires { ⌜ Run (sizeOf modulus) (length (now secret)) (length (now masks)) (length (now errors)) (length (now out)) ⌝ }
-    ensures { λ _. ⌜ now (out .exit) ≡ encryptedRows (sizeOf modulus) (length (now (secret .entry))) (length (now (errors .entry))) (now (masks .entry)) (signed (now (secret .entry))) (signed (now (errors .entry))) (λ i. pos 0) ⌝ }
+    requires { ⌜ Run (sizeOf modulus) n (length (now masks)) (length (now errors)) (length (now out)) ⌝ }
+    ensures { λ _. ⌜ now (out .exit) ≡
+        encryptedRows (sizeOf modulus) n (length (now (errors .entry))) (now (masks .entry))
+        (secretOf (keyOf form (now (words .entry)) (now (signed .entry))))
+        (errorsOf (now (errors .entry))) (λ i. pos 0) ⌝ }
 {
     let mut i = 0;
     while i < errors.len() {
-        let sum = batch::row_product_signed(masks, secret, i, modulus);
-        batch::encrypt_row(out, masks, secret.len(), errors, i, sum, 0, modulus);
+        batch::encrypt_row(out, form, words, signed, masks, n, errors, i, 0, modulus);
         i += 1;
     }
 }
@@ -74,10 +69,10 @@ fn generate_refusal(
     let r = checks::refuse(r, checks::ciphertexts_differ(room, n, n), 11);
     let r = checks::refuse(r, checks::runs_differ(masks.len(), n, n), 12);
     let r = checks::refuse(r, checks::length_differs(errors.len(), n), 12);
-    let r = checks::refuse(r, checks::bound_refused(params.bound, modulus), 13);
+    let r = checks::refuse(r, checks::bound_refused(params.error_limit, modulus), 13);
     let r = checks::refuse(r, key_refused, 14);
     let r = checks::refuse(r, checks::words_refused(modulus, masks), 14);
-    checks::refuse(r, checks::errors_refused(params.bound, errors), 15)
+    checks::refuse(r, checks::errors_refused(params.error_limit, errors), 15)
 }
 
 // Word k before any row: error k, and in the body the plaintext too.
@@ -85,7 +80,7 @@ fn start_word(errors: &[i32], plaintext: u32, k: usize, n: usize, modulus: Modul
     requires { ⌜ (0 < sizeOf modulus) × (k < length (now errors)) ⌝ }
     ensures { λ r. ⌜ r ≡ startWord (sizeOf modulus) n (signed (now (errors .entry))) plaintext k ⌝ }
 {
-    let error = borrowed::error_residue(errors, k, modulus);
+    let error = error_residue(errors, k, modulus);
     if k == n {
         return modulus.reduce_add(error, plaintext);
     }
@@ -180,10 +175,10 @@ fn public_refusal(
     let r = checks::refuse(r, checks::ciphertext_differs(room, n), 11);
     let r = checks::refuse(r, checks::ciphertext_differs(errors.len(), n), 12);
     let r = checks::refuse(r, checks::length_differs(coefficients.len(), n), 12);
-    let r = checks::refuse(r, checks::bound_refused(params.bound, modulus), 13);
+    let r = checks::refuse(r, checks::bound_refused(params.error_limit, modulus), 13);
     let r = checks::refuse(r, checks::words_refused(modulus, key), 14);
     let r = checks::refuse(r, checks::word_refused(modulus, plaintext), 14);
-    let r = checks::refuse(r, checks::errors_refused(params.bound, errors), 15);
+    let r = checks::refuse(r, checks::errors_refused(params.error_limit, errors), 15);
     checks::refuse(r, checks::coefficients_refused(coefficients), 15)
 }
 
@@ -209,9 +204,9 @@ fn public_message_refusal(
     let r = checks::refuse(r, checks::ciphertext_differs(room, n), 11);
     let r = checks::refuse(r, checks::ciphertext_differs(errors.len(), n), 12);
     let r = checks::refuse(r, checks::length_differs(coefficients.len(), n), 12);
-    let r = checks::refuse(r, checks::bound_refused(params.bound, modulus), 13);
+    let r = checks::refuse(r, checks::bound_refused(params.error_limit, modulus), 13);
     let r = checks::refuse(r, checks::words_refused(modulus, key), 14);
-    let r = checks::refuse(r, checks::errors_refused(params.bound, errors), 15);
+    let r = checks::refuse(r, checks::errors_refused(params.error_limit, errors), 15);
     let r = checks::refuse(r, checks::coefficients_refused(coefficients), 15);
     checks::refuse(r, checks::message_refused(t, message), 16)
 }
@@ -233,7 +228,16 @@ impl LwePublicKey {
         if r != 0 {
             return r;
         }
-        write_zeros(out, secret, masks, errors, modulus);
+        write_zeros(
+            out,
+            KeyForm::Words,
+            secret,
+            &[],
+            masks,
+            secret.len(),
+            errors,
+            modulus,
+        );
         0
     }
 
@@ -253,7 +257,16 @@ impl LwePublicKey {
         if r != 0 {
             return r;
         }
-        write_zeros_signed(out, secret, masks, errors, modulus);
+        write_zeros(
+            out,
+            KeyForm::Signed,
+            &[],
+            secret,
+            masks,
+            secret.len(),
+            errors,
+            modulus,
+        );
         0
     }
 

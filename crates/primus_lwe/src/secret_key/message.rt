@@ -1,29 +1,23 @@
-// Messages below t: encoded and encrypted, and opened again.
+// Messages below t: encoded and encrypted, and decrypted again.
 ghost use mathlib.Core.Path.{_≡_};
-ghost use mathlib.Core.Bool.{false};
-ghost use lib.IntN.{pos};
-ghost use lib.ListN.{length, getD};
-ghost use Rattle.scheme.specs.Lwe.{words, signed, encrypted};
+ghost use lib.ListN.{length};
+ghost use Rattle.scheme.specs.Lwe.{Words, Signed};
 ghost use Rattle.scheme.specs.Codec.{decode};
-ghost use Rattle.scheme.specs.Checks.{firstOf, codecRefusal, wordsFail, signedFail, Answers};
+ghost use Rattle.scheme.specs.Checks.{refusal, firstOf, codecRefusal};
 ghost use Rattle.primus_reduce.specs.Ring.{meant, sizeOf};
 ghost use Rattle.primus_encoding.specs.Answers.{encodeRows, encodeWord, decodeRows};
-ghost use Rattle.primus_lwe.specs.Answers.{withBody, lessProduct, messageRefusal, openRefusal, openedBy, messageAnswer};
+ghost use Rattle.primus_lwe.specs.Key.{keyOf};
+ghost use Rattle.primus_lwe.specs.Answers.{messageRows, EncryptsMessage, decryptRows, Decrypts};
 use crate::parameter::LweParameters;
 use crate::secret_key::borrowed;
-use crate::secret_key::borrowed::KeyProduct;
+use crate::secret_key::form;
+use crate::secret_key::form::KeyForm;
+use checks::Values;
+use checks::WordAnswer;
 use primus_encoding::PlaintextEmbedding;
 use primus_encoding::RoundedCodec;
 use primus_encoding::RoundedCodecAnswer;
-use primus_encoding::WordAnswer;
-use primus_lattice::dimension_refused;
 use primus_reduce::Modulus;
-
-// A message, or the first number that applies.
-pub enum MessageAnswer {
-    Message(u32),
-    Refused(u32),
-}
 
 // encode(m). Its checks have passed, so the codec does not refuse.
 pub(crate) fn encoding(
@@ -40,8 +34,8 @@ pub(crate) fn encoding(
         RoundedCodecAnswer::Accepted(codec) => {
             let word = codec.encode_value(message, embedding);
             match word {
-                WordAnswer::Word(p) => p,
-                WordAnswer::Refused(r) => r,
+                primus_encoding::WordAnswer::Word(p) => p,
+                primus_encoding::WordAnswer::Refused(r) => r,
             }
         }
         RoundedCodecAnswer::Refused(r) => r,
@@ -58,63 +52,85 @@ pub(crate) fn decoding(plaintext_modulus: u32, modulus: Modulus, phase: u32) -> 
         RoundedCodecAnswer::Accepted(codec) => {
             let word = codec.decode_value(phase);
             match word {
-                WordAnswer::Word(m) => m,
-                WordAnswer::Refused(r) => r,
+                primus_encoding::WordAnswer::Word(m) => m,
+                primus_encoding::WordAnswer::Refused(r) => r,
             }
         }
         RoundedCodecAnswer::Refused(r) => r,
     }
 }
 
-// The first refusal of an encryption of a message, as encrypt_refusal's with 7, 8 and 16.
 fn message_refusal(
     params: LweParameters,
-    key: KeyProduct,
+    form: KeyForm,
+    words: &[u32],
+    signed: &[i32],
     mask: &[u32],
     errors: &[i32],
     message: u32,
     room: usize,
 ) -> u32
-    ensures { λ r. ⌜ r ≡ messageRefusal params (key .len) (key .refused) (now (mask .entry)) (now (errors .entry)) message room ⌝ }
+    ensures { λ r. ⌜ r ≡ refusal (messageRows params (keyOf form (now (words .entry)) (now (signed .entry)))
+        (now (mask .entry)) (now (errors .entry)) message room) ⌝ }
 {
-    let n = params.dimension.get();
     let modulus = params.modulus;
-    let t = params.plaintext_modulus;
-    let r = checks::refuse(0, checks::modulus_refused(modulus), 2);
-    let r = checks::refuse(r, dimension_refused(n), 6);
-    let r = checks::refuse(r, checks::plaintext_refused(t), 7);
-    let r = checks::refuse(r, checks::small_refused(t, modulus), 8);
-    let r = checks::refuse(r, checks::length_differs(key.len, n), 9);
-    let r = checks::refuse(r, checks::ciphertext_differs(room, n), 11);
-    let r = checks::refuse(r, checks::length_differs(mask.len(), n), 12);
-    let r = checks::refuse(r, checks::length_differs(errors.len(), 1), 12);
-    let r = checks::refuse(r, checks::bound_refused(params.bound, modulus), 13);
-    let r = checks::refuse(r, key.refused, 14);
-    let r = checks::refuse(r, checks::words_refused(modulus, mask), 14);
-    let r = checks::refuse(r, checks::errors_refused(params.bound, errors), 15);
-    checks::refuse(r, checks::message_refused(t, message), 16)
+    let dimension = params.dimension;
+    let mut s = params.sizes();
+    s.key = form::key_differs(form, words, signed, dimension);
+    s.output = dimension.ciphertext_differs(room);
+    s.lent = borrowed::lent_differs(mask.len(), errors.len(), dimension);
+    let r = s.first();
+    if r != 0 {
+        return r;
+    }
+    let mut v = Values::NONE;
+    v.word = form::key_or_words_refused(form, modulus, words, signed, mask);
+    v.error = checks::errors_refused(params.error_limit, errors);
+    v.message = checks::message_refused(params.plaintext_modulus, message);
+    v.first()
 }
 
-// An encryption of a message under a key whose product with the mask is known.
-fn encrypt_message_under(
+// An encryption of a message under a key of either form.
+fn encrypt_message(
     params: LweParameters,
     embedding: PlaintextEmbedding,
-    key: KeyProduct,
+    form: KeyForm,
+    words: &[u32],
+    signed: &[i32],
     mask: &[u32],
     errors: &[i32],
     message: u32,
     out: &mut [u32],
 ) -> u32
-    ensures { λ r. ⌜ Answers (messageRefusal params (key .len) (key .refused) (now (mask .entry)) (now (errors .entry)) message (length (now (out .entry)))) (withBody (sizeOf (params .modulus)) (now (mask .entry)) (key .sum) (getD (now (errors .entry)) 0 (pos 0)) (encodeWord embedding (sizeOf (params .modulus)) (params .«plaintext_modulus») message)) (now (out .entry)) r (now (out .exit)) ⌝ }
+    ensures { λ r. ⌜ EncryptsMessage params embedding (keyOf form (now (words .entry)) (now (signed .entry)))
+        (now (mask .entry)) (now (errors .entry)) message (now (out .entry)) r (now (out .exit)) ⌝ }
 {
-    let r = message_refusal(params, key, mask, errors, message, out.len());
+    let r = message_refusal(
+        params,
+        form,
+        words,
+        signed,
+        mask,
+        errors,
+        message,
+        out.len(),
+    );
     if r != 0 {
         return r;
     }
     let modulus = params.modulus;
     let plaintext = encoding(params.plaintext_modulus, modulus, message, embedding);
-    let error = borrowed::error_residue(errors, 0, modulus);
-    borrowed::encrypt_mask_body(out, mask, modulus, key.sum, error, plaintext);
+    borrowed::encrypt_to(
+        out,
+        form,
+        words,
+        signed,
+        mask,
+        errors,
+        0,
+        plaintext,
+        modulus,
+    );
     0
 }
 
@@ -128,14 +144,23 @@ pub fn encrypt_message_to(
     message: u32,
     out: &mut [u32],
 ) -> u32
-    ensures { λ r. ⌜ Answers (messageRefusal params (length (now (secret .entry))) (wordsFail (sizeOf (params .modulus)) (now (secret .entry))) (now (mask .entry)) (now (errors .entry)) message (length (now (out .entry)))) (encrypted (sizeOf (params .modulus)) (params .dimension .0) (now (mask .entry)) (words (now (secret .entry))) (getD (now (errors .entry)) 0 (pos 0)) (pos (encodeWord embedding (sizeOf (params .modulus)) (params .«plaintext_modulus») message))) (now (out .entry)) r (now (out .exit)) ⌝ }
+    ensures { λ r. ⌜ EncryptsMessage params embedding (Words (now (secret .entry))) (now (mask .entry))
+        (now (errors .entry)) message (now (out .entry)) r (now (out .exit)) ⌝ }
 {
-    let modulus = params.modulus;
-    let key = borrowed::encoded_key(modulus, secret, mask);
-    encrypt_message_under(params, embedding, key, mask, errors, message, out)
+    encrypt_message(
+        params,
+        embedding,
+        KeyForm::Words,
+        secret,
+        &[],
+        mask,
+        errors,
+        message,
+        out,
+    )
 }
 
-// The same under a signed key.
+// encrypt_message_to under a signed key.
 pub fn encrypt_message_signed_to(
     params: LweParameters,
     embedding: PlaintextEmbedding,
@@ -145,63 +170,81 @@ pub fn encrypt_message_signed_to(
     message: u32,
     out: &mut [u32],
 ) -> u32
-    ensures { λ r. ⌜ Answers (messageRefusal params (length (now (secret .entry))) (signedFail (sizeOf (params .modulus)) (now (secret .entry))) (now (mask .entry)) (now (errors .entry)) message (length (now (out .entry)))) (encrypted (sizeOf (params .modulus)) (params .dimension .0) (now (mask .entry)) (signed (now (secret .entry))) (getD (now (errors .entry)) 0 (pos 0)) (pos (encodeWord embedding (sizeOf (params .modulus)) (params .«plaintext_modulus») message))) (now (out .entry)) r (now (out .exit)) ⌝ }
+    ensures { λ r. ⌜ EncryptsMessage params embedding (Signed (now (secret .entry))) (now (mask .entry))
+        (now (errors .entry)) message (now (out .entry)) r (now (out .exit)) ⌝ }
 {
-    let modulus = params.modulus;
-    let key = borrowed::signed_key(modulus, secret, mask);
-    encrypt_message_under(params, embedding, key, mask, errors, message, out)
+    encrypt_message(
+        params,
+        embedding,
+        KeyForm::Signed,
+        &[],
+        secret,
+        mask,
+        errors,
+        message,
+        out,
+    )
 }
 
-// The first refusal of an opening, as phase_refusal's with 7 and 8.
-fn open_refusal(params: LweParameters, key: KeyProduct, ciphertext: &[u32]) -> u32
-    ensures { λ r. ⌜ r ≡ openRefusal params (key .len) (key .refused) (now (ciphertext .entry)) ⌝ }
+fn decrypt_refusal(
+    params: LweParameters,
+    form: KeyForm,
+    words: &[u32],
+    signed: &[i32],
+    ciphertext: &[u32],
+) -> u32
+    ensures { λ r. ⌜ r ≡ refusal (decryptRows params (keyOf form (now (words .entry)) (now (signed .entry)))
+        (now (ciphertext .entry))) ⌝ }
 {
-    let n = params.dimension.get();
     let modulus = params.modulus;
-    let t = params.plaintext_modulus;
-    let r = checks::refuse(0, checks::modulus_refused(modulus), 2);
-    let r = checks::refuse(r, dimension_refused(n), 6);
-    let r = checks::refuse(r, checks::plaintext_refused(t), 7);
-    let r = checks::refuse(r, checks::small_refused(t, modulus), 8);
-    let r = checks::refuse(r, checks::length_differs(key.len, n), 9);
-    let r = checks::refuse(r, checks::ciphertext_differs(ciphertext.len(), n), 10);
-    let r = checks::refuse(r, checks::bound_refused(params.bound, modulus), 13);
-    let r = checks::refuse(r, key.refused, 14);
-    checks::refuse(r, checks::words_refused(modulus, ciphertext), 14)
-}
-
-// An opening under a key whose product with the ciphertext is known.
-fn open_under(params: LweParameters, key: KeyProduct, ciphertext: &[u32]) -> MessageAnswer
-    ensures { λ r. ⌜ r ≡ openedBy params (key .len) (key .refused) (lessProduct (params .modulus) (params .dimension .0) (key .sum) (now (ciphertext .entry))) (now (ciphertext .entry)) ⌝ }
-{
-    let r = open_refusal(params, key, ciphertext);
+    let dimension = params.dimension;
+    let mut s = params.sizes();
+    s.key = form::key_differs(form, words, signed, dimension);
+    s.input = dimension.ciphertext_differs(ciphertext.len());
+    let r = s.first();
     if r != 0 {
-        return MessageAnswer::Refused(r);
+        return r;
+    }
+    let mut v = Values::NONE;
+    v.word = form::key_or_words_refused(form, modulus, words, signed, ciphertext);
+    v.first()
+}
+
+// A decryption under a key of either form.
+fn decrypt_under(
+    params: LweParameters,
+    form: KeyForm,
+    words: &[u32],
+    signed: &[i32],
+    ciphertext: &[u32],
+) -> WordAnswer
+    ensures { λ r. ⌜ Decrypts params (keyOf form (now (words .entry)) (now (signed .entry)))
+        (now (ciphertext .entry)) r ⌝ }
+{
+    let r = decrypt_refusal(params, form, words, signed, ciphertext);
+    if r != 0 {
+        return WordAnswer::Refused(r);
     }
     let n = params.dimension.get();
     let modulus = params.modulus;
-    let p = borrowed::phase(ciphertext, n, modulus, key.sum);
-    MessageAnswer::Message(decoding(params.plaintext_modulus, modulus, p))
+    let p = borrowed::phase(form, words, signed, ciphertext, n, modulus);
+    WordAnswer::Word(decoding(params.plaintext_modulus, modulus, p))
 }
 
 // decode of the phase. Refuses by 2, 6, 7, 8, 9, 10, 13, 14.
-pub fn decrypt_message(params: LweParameters, secret: &[u32], ciphertext: &[u32]) -> MessageAnswer
-    ensures { λ r. ⌜ r ≡ messageAnswer params (length (now (secret .entry))) (wordsFail (sizeOf (params .modulus)) (now (secret .entry))) (words (now (secret .entry))) (now (ciphertext .entry)) ⌝ }
+pub fn decrypt_message(params: LweParameters, secret: &[u32], ciphertext: &[u32]) -> WordAnswer
+    ensures { λ r. ⌜ Decrypts params (Words (now (secret .entry))) (now (ciphertext .entry)) r ⌝ }
 {
-    let modulus = params.modulus;
-    let key = borrowed::encoded_key(modulus, secret, ciphertext);
-    open_under(params, key, ciphertext)
+    decrypt_under(params, KeyForm::Words, secret, &[], ciphertext)
 }
 
-// The same under a signed key.
+// decrypt_message under a signed key.
 pub fn decrypt_message_signed(
     params: LweParameters,
     secret: &[i32],
     ciphertext: &[u32],
-) -> MessageAnswer
-    ensures { λ r. ⌜ r ≡ messageAnswer params (length (now (secret .entry))) (signedFail (sizeOf (params .modulus)) (now (secret .entry))) (signed (now (secret .entry))) (now (ciphertext .entry)) ⌝ }
+) -> WordAnswer
+    ensures { λ r. ⌜ Decrypts params (Signed (now (secret .entry))) (now (ciphertext .entry)) r ⌝ }
 {
-    let modulus = params.modulus;
-    let key = borrowed::signed_key(modulus, secret, ciphertext);
-    open_under(params, key, ciphertext)
+    decrypt_under(params, KeyForm::Signed, &[], secret, ciphertext)
 }

@@ -7,10 +7,12 @@ ghost use Rattle.scheme.specs.Lwe.{words, signed, encryptedRows, phaseOf, rowOf
 ghost use Rattle.scheme.specs.Codec.{decode};
 ghost use Rattle.scheme.specs.Checks.{Answers};
 ghost use Rattle.primus_reduce.specs.Ring.{sizeOf};
-ghost use Rattle.primus_lwe.specs.Answers.{Run, Rowwise, Coding, Opening, encodings, batchRefusal, batchPhaseRefusal, batchOpenRefusal};
+ghost use Rattle.primus_lwe.specs.Answers.{Run, Coding, Opening, encodings};
+ghost use Rattle.primus_lwe.specs.Batch.{Rowwise, batchRefusal, batchPhaseRefusal, batchOpenRefusal};
 use crate::batch;
 use crate::parameter::LweEncryptionParameters;
 use crate::parameter::LweParameters;
+use crate::secret_key::form::KeyForm;
 use crate::secret_key::message;
 use primus_encoding::PlaintextEmbedding;
 use primus_lattice::dimension_refused;
@@ -34,9 +36,19 @@ fn write_messages(
     let n = secret.len();
     let mut i = 0;
     while i < errors.len() {
-        let sum = batch::row_product(masks, secret, i, modulus);
         let plaintext = message::encoding(t, modulus, messages[i], embedding);
-        batch::encrypt_row(out, masks, n, errors, i, sum, plaintext, modulus);
+        batch::encrypt_row(
+            out,
+            KeyForm::Words,
+            secret,
+            &[],
+            masks,
+            n,
+            errors,
+            i,
+            plaintext,
+            modulus,
+        );
         i += 1;
     }
 }
@@ -64,10 +76,10 @@ fn batch_refusal(
     let r = checks::refuse(r, checks::ciphertexts_differ(room, count, n), 11);
     let r = checks::refuse(r, checks::runs_differ(masks.len(), count, n), 12);
     let r = checks::refuse(r, checks::length_differs(errors.len(), count), 12);
-    let r = checks::refuse(r, checks::bound_refused(params.bound, modulus), 13);
+    let r = checks::refuse(r, checks::bound_refused(params.error_limit, modulus), 13);
     let r = checks::refuse(r, checks::words_refused(modulus, secret), 14);
     let r = checks::refuse(r, checks::words_refused(modulus, masks), 14);
-    let r = checks::refuse(r, checks::errors_refused(params.bound, errors), 15);
+    let r = checks::refuse(r, checks::errors_refused(params.error_limit, errors), 15);
     checks::refuse(r, checks::messages_refused(t, messages), 16)
 }
 
@@ -120,7 +132,7 @@ fn batch_phase_refusal(
     let r = checks::refuse(r, checks::batch_differs(input.len(), n), 10);
     let count = checks::batch_count(input.len(), n);
     let r = checks::refuse(r, checks::length_differs(room, count), 11);
-    let r = checks::refuse(r, checks::bound_refused(params.bound, modulus), 13);
+    let r = checks::refuse(r, checks::bound_refused(params.error_limit, modulus), 13);
     let r = checks::refuse(r, checks::words_refused(modulus, secret), 14);
     checks::refuse(r, checks::words_refused(modulus, input), 14)
 }
@@ -173,7 +185,7 @@ fn batch_open_refusal(params: LweParameters, secret: &[u32], input: &[u32], room
     let r = checks::refuse(r, checks::batch_differs(input.len(), n), 10);
     let count = checks::batch_count(input.len(), n);
     let r = checks::refuse(r, checks::length_differs(room, count), 11);
-    let r = checks::refuse(r, checks::bound_refused(params.bound, modulus), 13);
+    let r = checks::refuse(r, checks::bound_refused(params.error_limit, modulus), 13);
     let r = checks::refuse(r, checks::words_refused(modulus, secret), 14);
     checks::refuse(r, checks::words_refused(modulus, input), 14)
 }

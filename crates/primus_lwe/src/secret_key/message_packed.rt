@@ -7,7 +7,8 @@ ghost use Rattle.scheme.specs.Lwe.{words, signed, packed, packedPhase};
 ghost use Rattle.scheme.specs.Codec.{decode};
 ghost use Rattle.scheme.specs.Checks.{Answers};
 ghost use Rattle.primus_reduce.specs.Ring.{sizeOf};
-ghost use Rattle.primus_lwe.specs.Answers.{Packable, Coding, Opening, encodings, packedMessageRefusal, packedOpenRefusal};
+ghost use Rattle.primus_lwe.specs.Answers.{Coding, Opening, encodings};
+ghost use Rattle.primus_lwe.specs.Packed.{Packable, packedMessageRefusal, packedOpenRefusal};
 use crate::parameter::LweParameters;
 use crate::secret_key::message;
 use crate::secret_key::packed;
@@ -81,10 +82,10 @@ fn packed_message_refusal(
     let r = checks::refuse(r, packed::room_differs(room, n, count), 11);
     let r = checks::refuse(r, checks::length_differs(mask.len(), n), 12);
     let r = checks::refuse(r, checks::length_differs(errors.len(), count), 12);
-    let r = checks::refuse(r, checks::bound_refused(params.bound, modulus), 13);
+    let r = checks::refuse(r, checks::bound_refused(params.error_limit, modulus), 13);
     let r = checks::refuse(r, checks::words_refused(modulus, secret), 14);
     let r = checks::refuse(r, checks::words_refused(modulus, mask), 14);
-    let r = checks::refuse(r, checks::errors_refused(params.bound, errors), 15);
+    let r = checks::refuse(r, checks::errors_refused(params.error_limit, errors), 15);
     checks::refuse(r, checks::messages_refused(t, messages), 16)
 }
 
@@ -123,7 +124,7 @@ fn packed_open_refusal(params: LweParameters, secret: &[u32], input: &[u32], roo
     let r = checks::refuse(r, packed_refused(input.len(), n), 10);
     let count = packed::body_count(input.len(), n);
     let r = checks::refuse(r, checks::length_differs(room, count), 11);
-    let r = checks::refuse(r, checks::bound_refused(params.bound, modulus), 13);
+    let r = checks::refuse(r, checks::bound_refused(params.error_limit, modulus), 13);
     let r = checks::refuse(r, checks::words_refused(modulus, secret), 14);
     checks::refuse(r, checks::words_refused(modulus, input), 14)
 }

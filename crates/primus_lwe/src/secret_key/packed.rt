@@ -7,9 +7,9 @@ ghost use Rattle.scheme.specs.Numbers.{residue, tabulate};
 ghost use Rattle.scheme.specs.Lwe.{words, signed, rotated, packed, packedPhase};
 ghost use Rattle.scheme.specs.Checks.{lengthFails, Answers};
 ghost use Rattle.primus_reduce.specs.Ring.{sizeOf, modulo};
-ghost use Rattle.primus_lwe.specs.Answers.{Packable, packedRefusal, packedPhaseRefusal};
+ghost use Rattle.primus_lwe.specs.Packed.{Packable, packedRefusal, packedPhaseRefusal};
 use crate::parameter::LweEncryptionParameters;
-use crate::secret_key::borrowed;
+use crate::secret_key::form;
 use primus_lattice::dimension_refused;
 use primus_lattice::packed_refused;
 use primus_reduce::Modulus;
@@ -70,7 +70,7 @@ pub(crate) fn packed_body(
     ensures { λ r. ⌜ r ≡ residue (rotated (length (now (mask .entry))) (now (mask .entry)) (words (now (secret .entry))) i +ℤ signed (now (errors .entry)) i +ℤ pos plaintext) (sizeOf modulus) ⌝ }
 {
     let product = rotated_mask_product(mask, secret, i, mask.len(), modulus);
-    let error = borrowed::error_residue(errors, i, modulus);
+    let error = form::error_residue(errors, i, modulus);
     let noisy = modulus.reduce_add(product, error);
     modulus.reduce_add(noisy, plaintext)
 }
@@ -144,11 +144,11 @@ fn packed_refusal(
     let r = checks::refuse(r, room_differs(room, n, count), 11);
     let r = checks::refuse(r, checks::length_differs(mask.len(), n), 12);
     let r = checks::refuse(r, checks::length_differs(errors.len(), count), 12);
-    let r = checks::refuse(r, checks::bound_refused(params.bound, modulus), 13);
+    let r = checks::refuse(r, checks::bound_refused(params.error_limit, modulus), 13);
     let r = checks::refuse(r, checks::words_refused(modulus, secret), 14);
     let r = checks::refuse(r, checks::words_refused(modulus, mask), 14);
     let r = checks::refuse(r, checks::words_refused(modulus, plaintexts), 14);
-    checks::refuse(r, checks::errors_refused(params.bound, errors), 15)
+    checks::refuse(r, checks::errors_refused(params.error_limit, errors), 15)
 }
 
 // n mask words, then a body for each plaintext. Refuses by 2, 6, 9, 10, 11, 12, 13, 14, 15.
@@ -198,7 +198,7 @@ fn packed_phase_refusal(
     let r = checks::refuse(r, packed_refused(input.len(), n), 10);
     let count = body_count(input.len(), n);
     let r = checks::refuse(r, checks::length_differs(room, count), 11);
-    let r = checks::refuse(r, checks::bound_refused(params.bound, modulus), 13);
+    let r = checks::refuse(r, checks::bound_refused(params.error_limit, modulus), 13);
     let r = checks::refuse(r, checks::words_refused(modulus, secret), 14);
     checks::refuse(r, checks::words_refused(modulus, input), 14)
 }

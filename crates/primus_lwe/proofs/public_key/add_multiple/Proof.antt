@@ -9,7 +9,7 @@ use mir.Val.{SFits}
 use mir.Facts.{toZ-ofZ}
 use borrow.Author.Needs.{needs}
 use Rattle.primus_reduce.specs.Ring.{sizeOf}
-use Rattle.primus_lwe.specs.Answers.{plusTimes}
+use Rattle.primus_lwe.specs.Public.{plusTimes}
 use Rattle.primus_lwe.proofs.Rowwise.{no-row, coefficient-one, coefficient-minus, coefficient-none}
 use Rattle.primus_lwe.proofs.public_key.add_multiple.Statement.{statement}
 use Rattle.primus_lwe.proofs.public_key.add_multiple.Tie as tie

@@ -5,7 +5,7 @@ use lib.IntN.{pos}
 use lib.ListN.{length, getD}
 use Rattle.scheme.proofs.InPlace.{Filled, filled-start, zipped-next, filled-end, length-zip}
 use Rattle.primus_reduce.specs.Ring.{sizeOf}
-use Rattle.primus_lwe.specs.Answers.{plusTimes}
+use Rattle.primus_lwe.specs.Public.{plusTimes}
 use Rattle.primus_lwe.proofs.Rowwise.{plus-row}
 use Rattle.primus_lwe.proofs.public_key.add_row.Statement.{statement}
 use Rattle.primus_lwe.proofs.public_key.add_row.Tie as tie

@@ -7,7 +7,7 @@ use Rattle.scheme.specs.Lwe.{signed}
 use Rattle.scheme.proofs.Lists.{length-tabulate, getD-tabulate}
 use Rattle.scheme.proofs.InPlace.{Filled, filled-start, filled-next, filled-end}
 use Rattle.primus_reduce.specs.Ring.{sizeOf}
-use Rattle.primus_lwe.specs.Answers.{startWord}
+use Rattle.primus_lwe.specs.Public.{startWord}
 use Rattle.primus_lwe.proofs.public_key.start.Statement.{statement}
 use Rattle.primus_lwe.proofs.public_key.start.Tie as tie
 

@@ -7,7 +7,7 @@ use Rattle.scheme.specs.Lwe.{words, signed, encryptedRows, publicKey}
 use Rattle.scheme.specs.Checks.{wordsFail}
 use Rattle.checks.proofs.Table.{refused, done}
 use Rattle.primus_reduce.specs.Ring.{sizeOf}
-use Rattle.primus_lwe.specs.Answers.{generateRefusal}
+use Rattle.primus_lwe.specs.Public.{generateRefusal}
 use Rattle.primus_lwe.proofs.Rowwise.{Generable, generable}
 use Rattle.primus_lwe.proofs.public_key.LwePublicKey.generate.Statement.{statement}
 use Rattle.primus_lwe.proofs.public_key.LwePublicKey.generate.Tie as tie
@@ -34,7 +34,7 @@ returns-2 : tie.Need-returns-2
 unfolding publicKey
 returns-2 c =
     let w = c .before .before in
-    let e = w .before .before in
+    let e = w .before .before .before in
     let a = start (e .before) .args in
     let r = ready e in
     done (sym (number (e .before)) ∙ e .if1 .left)
@@ -42,4 +42,4 @@ returns-2 c =
     ∙ ap₂ (λ (n : ℕ) (k : ℕ). encryptedRows (sizeOf (a .params .modulus)) n k (a .masks .now) (words (a .secret .now)) (signed (a .errors .now)) (λ i. pos 0)) (r .key) (r .count))
 
 pub generate-spec : {M : Type 1} → statement M
-generate-spec = tie.close (tie.spec (λ c κs. tt) (λ c κs. tt) returns (λ c κs. ready (c .before) .run) (λ c. search needs) returns-2)
+generate-spec = tie.close (tie.spec (λ c κs. tt) (λ c κs. tt) returns (λ c. search needs) (λ c κs. ready (c .before .before) .run) (λ c. search needs) returns-2)

@@ -1,6 +1,6 @@
 use mathlib.Core.Path.{_≡_}
 use borrow.Author.Needs.{needs}
-use Rattle.primus_lwe.proofs.Laws.{codec-made, codec-not, decode-made, decode-not}
+use Rattle.primus_lwe.proofs.Coded.{codec-made, codec-not, decode-made, decode-not}
 use Rattle.primus_lwe.proofs.secret_key.message.decoding.Statement.{statement}
 use Rattle.primus_lwe.proofs.secret_key.message.decoding.Tie as tie
 

@@ -1,47 +1,29 @@
-use mathlib.Core.Path.{refl, ap, _∙_}
-use Rattle.checks.proofs.Table.{none, _▹_, first}
-use Rattle.primus_lwe.specs.Answers.{messageRows, messageRefusal}
-use Rattle.primus_lwe.proofs.Laws.{with-dimension-t}
+use mathlib.Core.Path.{_≡_}
+use mathlib.Core.List.{List}
+use borrow.Author.Needs.{needs}
+use Rattle.scheme.specs.Checks.{Check}
+use Rattle.scheme.proofs.Order.{Sized, early, late}
+use Rattle.primus_lwe.specs.Key.{keyOf}
+use Rattle.primus_lwe.specs.Answers.{messageRows}
 use Rattle.primus_lwe.proofs.secret_key.message.message_refusal.Statement.{statement}
 use Rattle.primus_lwe.proofs.secret_key.message.message_refusal.Tie as tie
 
+abbrev rows : tie.After-first → List Check
+rows c =
+    let a = c .before .before .before .before .before .before .before .before .args in
+    messageRows (a .params) (keyOf (a .form) (a .words .now) (a .signed .now)) (a .mask .now) (a .errors .now) (a .message) (a .room)
+
+sized : (c : tie.After-first) → Sized (rows c) (c .first .result)
+sized c = c .first .ensures (rows c) (record { basis = search needs; parameters = search needs; lengths = search needs })
+
 returns : tie.Need-returns
-unfolding messageRefusal
-returns c =
-    let r12 = c .before .before in
-    let r11 = r12 .before .before in
-    let r10 = r11 .before .before in
-    let r9 = r10 .before in
-    let r8 = r9 .before .before in
-    let r7 = r8 .before .before in
-    let r6 = r7 .before .before in
-    let r5 = r6 .before .before in
-    let r4 = r5 .before .before in
-    let r3 = r4 .before .before in
-    let r2 = r3 .before .before in
-    let r1 = r2 .before .before in
-    let g = r1 .before .before in
-    let a = g .before .before .args in
-    first (messageRows (with-dimension-t (a .params) (g .get .result)) (a .key .len) (a .key .refused) (a .mask .now) (a .errors .now) (a .message) (a .room)) tt
-    (none
-    ▹ (r1 .refuse .ensures, r1 .before .modulus-refused .ensures)
-    ▹ (r2 .refuse2 .ensures, r2 .before .dimension-refused .ensures)
-    ▹ (r3 .refuse3 .ensures, r3 .before .plaintext-refused .ensures)
-    ▹ (r4 .refuse4 .ensures, r4 .before .small-refused .ensures)
-    ▹ (r5 .refuse5 .ensures, r5 .before .length-differs .ensures)
-    ▹ (r6 .refuse6 .ensures, r6 .before .ciphertext-differs .ensures)
-    ▹ (r7 .refuse7 .ensures, r7 .before .length-differs2 .ensures)
-    ▹ (r8 .refuse8 .ensures, r8 .before .length-differs3 .ensures)
-    ▹ (r9 .refuse9 .ensures, r9 .before .bound-refused .ensures)
-    ▹ (r10 .refuse10 .ensures, refl)
-    ▹ (r11 .refuse11 .ensures, r11 .before .words-refused .ensures)
-    ▹ (r12 .refuse12 .ensures, r12 .before .errors-refused .ensures)
-    ▹ (c .refuse13 .ensures, c .before .message-refused .ensures))
-    ∙ ap (λ n. messageRefusal (with-dimension-t (a .params) n) (a .key .len) (a .key .refused) (a .mask .now) (a .errors .now) (a .message) (a .room)) (g .get .ensures)
+returns c = early (rows (c .before)) (sized (c .before)) (c .if1 .taken)
+
+returns-2 : tie.Need-returns-2
+returns-2 c =
+    let e = c .before .before .before .before in
+    let r = rows (e .before) in
+    late r (sized (e .before)) (e .if1 .left) (c .first2 .ensures r (search needs))
 
 pub message-refusal-spec : {M : Type 1} → statement M
-message-refusal-spec =
-    tie.close
-    (tie.spec (λ c κs. tt) (λ c κs. tt) (λ c κs. tt) (λ c κs. tt) (λ c κs. tt) (λ c κs. tt) (λ c κs. tt) (λ c κs. tt) (λ c κs. tt) (λ c κs. tt)
-    (λ c κs. tt) (λ c κs. tt) (λ c κs. tt) (λ c κs. tt) (λ c κs. tt) (λ c κs. tt) (λ c κs. tt) (λ c κs. tt) (λ c κs. tt) (λ c κs. tt)
-    (λ c κs. tt) (λ c κs. tt) (λ c κs. tt) (λ c κs. tt) (λ c κs. tt) (λ c κs. tt) returns)
+message-refusal-spec = tie.close (tie.spec (λ c κs. tt) (λ c κs. tt) (λ c κs. tt) (λ c κs. tt) (λ c κs. tt) returns (λ c κs. tt) (λ c κs. tt) (λ c κs. tt) (λ c κs. tt) returns-2)

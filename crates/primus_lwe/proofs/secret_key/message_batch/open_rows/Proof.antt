@@ -9,7 +9,7 @@ use Rattle.scheme.proofs.Lists.{length-tabulate, getD-tabulate}
 use Rattle.scheme.proofs.InPlace.{Filled, filled-start, filled-next, filled-end}
 use Rattle.scheme.proofs.Rows.{row-within}
 use Rattle.primus_reduce.specs.Ring.{sizeOf}
-use Rattle.primus_lwe.proofs.Messages.{phase-below}
+use Rattle.primus_lwe.proofs.Coded.{phase-below}
 use Rattle.primus_lwe.proofs.secret_key.message_batch.open_rows.Statement.{statement}
 use Rattle.primus_lwe.proofs.secret_key.message_batch.open_rows.Tie as tie
 

@@ -1,6 +1,7 @@
 use mathlib.Core.Path.{_≡_, refl, ap}
-use Prim.Native.Nat.{_+_, _*_, _-_, _≤_}
+use Prim.Native.Nat.{_-_}
 use native.Mathlib.Omega.{arith}
+use borrow.Author.Needs.{needs}
 use lib.IntN.{pos}
 use lib.ListN.{length, getD}
 use Rattle.scheme.specs.Lwe.{words, signed}
@@ -13,11 +14,11 @@ use Rattle.primus_lwe.proofs.secret_key.message_batch.write_messages.St
 use Rattle.primus_lwe.proofs.secret_key.message_batch.write_messages.Tie as tie
 
 abbrev Inv-loop : tie.InvT-loop
-Inv-loop out₀ embedding secret masks errors messages modulus t n i₀ out i =
+Inv-loop out₀ embedding secret masks errors messages modulus t n i₀ none out i =
     Rows (sizeOf modulus) (length secret) masks (words secret) (signed errors) (λ i. pos (encodeWord embedding (sizeOf modulus) t (getD messages i 0))) (length errors) out₀ out i
 
 abbrev μ-loop : tie.MeasureT-loop
-μ-loop out₀ embedding secret masks errors messages modulus t n i₀ out i = length errors - i
+μ-loop out₀ embedding secret masks errors messages modulus t n i₀ none out i = length errors - i
 
 abbrev begun : tie.At-loop Inv-loop μ-loop → tie.Start Inv-loop μ-loop
 begun l = l .before .before .before .before .before
@@ -28,17 +29,9 @@ loop-holds c =
     let a = s .args in
     rows-start (sizeOf (a .params .modulus)) (length (a .secret .now)) (a .masks .now) (words (a .secret .now)) (signed (a .errors .now)) (encodings (a .embedding) (a .params) (a .messages .now)) (length (a .errors .now)) (a .out .now) (s .pre .0)
 
--- mask i lies within the masks
-within : (t : tie.In-loop Inv-loop μ-loop) → let l = t .before in let n = length (begun l .args .secret .now) in l .loop .i * n + n ≤ length (begun l .args .masks .now)
-within t =
-    let l = t .before in
-    let s = begun l in
-    let a = s .args in
-    rows-mask (sizeOf (a .params .modulus)) (length (a .secret .now)) (a .masks .now) (words (a .secret .now)) (signed (a .errors .now)) (encodings (a .embedding) (a .params) (a .messages .now)) (length (a .errors .now)) (a .out .now) (s .pre .0) (l .loop .i) (t .loop-test .taken)
-
 encoding-requires : tie.Need-encoding-requires Inv-loop μ-loop
 encoding-requires c κs =
-    let t = c .before .before in
+    let t = c .before in
     let s = begun (t .before) in
     (s .pre .2 .codec, s .pre .2 .each _ (omega (arith, s .pre .1)))
 
@@ -46,19 +39,21 @@ encrypt-row-requires : tie.Need-encrypt-row-requires Inv-loop μ-loop
 encrypt-row-requires c κs =
     let t = c .before .before .before .before in
     let l = t .before in
-    (begun l .pre .0 .positive, t .loop-test .taken, within t, filling-room (l .loop .inv) (t .loop-test .taken))
+    let s = begun l in
+    let a = s .args in (
+      s .pre .0 .positive,
+      rows-mask (sizeOf (a .params .modulus)) (length (a .secret .now)) (a .masks .now) (words (a .secret .now)) (signed (a .errors .now)) (encodings (a .embedding) (a .params) (a .messages .now)) (length (a .errors .now)) (a .out .now) (s .pre .0) (l .loop .i) (t .loop-test .taken),
+      filling-room (l .loop .inv) (t .loop-test .taken),
+    )
 
 loop-again : tie.Need-loop-again Inv-loop μ-loop
 loop-again c =
     let w = c .before .before in
-    let e = w .before .before in
-    let p = e .before .before in
-    let t = p .before in
+    let e = w .before .before .before in
+    let t = e .before .before in
     let l = t .before in
-    let s = begun l in
-    let a = s .args in
-    rows-more (sizeOf (a .params .modulus)) (length (a .secret .now)) (a .masks .now) (words (a .secret .now)) (signed (a .errors .now)) (encodings (a .embedding) (a .params) (a .messages .now)) (length (a .errors .now)) (a .out .now) (s .pre .0)
-    (l .loop .out) (l .loop .i) (l .loop .inv) (t .loop-test .taken) _ _ (p .row-product .ensures) (ap pos (e .encoding .ensures)) _ (w .encrypt-row .ensures)
+    let a = begun l .args in
+    rows-more (sizeOf (a .params .modulus)) (length (a .secret .now)) (a .masks .now) (words (a .secret .now)) (signed (a .errors .now)) (encodings (a .embedding) (a .params) (a .messages .now)) (length (a .errors .now)) (a .out .now) (l .loop .out) (l .loop .i) (l .loop .inv) (t .loop-test .taken) _ (ap pos (e .encoding .ensures)) _ (w .encrypt-row .ensures)
 
 returns : tie.Need-returns Inv-loop μ-loop
 returns c =
@@ -67,7 +62,4 @@ returns c =
     rows-done (sizeOf (a .params .modulus)) (length (a .secret .now)) (a .masks .now) (words (a .secret .now)) (signed (a .errors .now)) (encodings (a .embedding) (a .params) (a .messages .now)) (length (a .errors .now)) (a .out .now) (l .loop .out) (l .loop .i) (l .loop .inv) (c .loop-test .left)
 
 pub write-messages-spec : {M : Type 1} → statement M
-write-messages-spec =
-    tie.close
-    (tie.spec Inv-loop μ-loop loop-holds (λ c κs. within c) (λ c. omega (arith, begun (c .before .before) .pre .1)) (λ c. omega (arith, begun (c .before .before .before) .pre .1)) encoding-requires encrypt-row-requires
-    (λ c. omega arith) (λ c. omega arith) loop-again (λ c. c .before .loop .inv .same) returns)
+write-messages-spec = tie.close (tie.spec Inv-loop μ-loop loop-holds (λ c. omega (arith, begun (c .before) .pre .1)) (λ c. omega (arith, begun (c .before .before) .pre .1)) encoding-requires (λ c. search needs) encrypt-row-requires (λ c. omega arith) (λ c. omega arith) loop-again (λ c. c .before .loop .inv .same) returns)

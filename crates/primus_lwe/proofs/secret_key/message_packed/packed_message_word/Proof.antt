@@ -8,7 +8,7 @@ use Rattle.scheme.specs.Numbers.{residue}
 use Rattle.scheme.specs.Lwe.{words, signed, rotated}
 use Rattle.primus_reduce.specs.Ring.{sizeOf}
 use Rattle.primus_lwe.specs.Answers.{encodings}
-use Rattle.primus_lwe.proofs.Laws.{packed-mask, packed-body}
+use Rattle.primus_lwe.proofs.PackedLaws.{packed-mask, packed-body}
 use Rattle.primus_lwe.proofs.secret_key.message_packed.packed_message_word.Statement.{statement}
 use Rattle.primus_lwe.proofs.secret_key.message_packed.packed_message_word.Tie as tie
 

@@ -6,7 +6,7 @@ use Rattle.scheme.specs.Lwe.{words, signed, packed}
 use Rattle.scheme.proofs.InPlace.{Filled, filled-start, filled-next, filled-end}
 use Rattle.primus_reduce.specs.Ring.{sizeOf}
 use Rattle.primus_lwe.specs.Answers.{encodings}
-use Rattle.primus_lwe.proofs.Laws.{packed-length}
+use Rattle.primus_lwe.proofs.PackedLaws.{packed-length}
 use Rattle.primus_lwe.proofs.secret_key.message_packed.write_packed_messages.Statement.{statement}
 use Rattle.primus_lwe.proofs.secret_key.message_packed.write_packed_messages.Tie as tie
 

@@ -1,7 +1,7 @@
 use native.Mathlib.Omega.{arith}
 use Rattle.scheme.specs.Lwe.{words}
 use Rattle.primus_reduce.specs.Ring.{sizeOf}
-use Rattle.primus_lwe.proofs.Laws.{packed-is}
+use Rattle.primus_lwe.proofs.PackedLaws.{packed-is}
 use Rattle.primus_lwe.proofs.secret_key.packed.body_phase.Statement.{statement}
 use Rattle.primus_lwe.proofs.secret_key.packed.body_phase.Tie as tie
 

@@ -7,7 +7,7 @@ use Rattle.scheme.specs.Numbers.{tabulate}
 use Rattle.scheme.specs.Lwe.{words, packedPhase}
 use Rattle.checks.proofs.Table.{refused, done}
 use Rattle.primus_reduce.specs.Ring.{sizeOf}
-use Rattle.primus_lwe.proofs.Laws.{PhasablePacked, phasable-packed}
+use Rattle.primus_lwe.proofs.PackedLaws.{PhasablePacked, phasable-packed}
 use Rattle.primus_lwe.proofs.secret_key.packed.decrypt_phase_packed.Statement.{statement}
 use Rattle.primus_lwe.proofs.secret_key.packed.decrypt_phase_packed.Tie as tie
 

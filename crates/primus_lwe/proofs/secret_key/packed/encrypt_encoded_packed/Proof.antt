@@ -4,7 +4,7 @@ use lib.ListN.{length}
 use Rattle.scheme.specs.Lwe.{words, signed, packed}
 use Rattle.checks.proofs.Table.{refused, done}
 use Rattle.primus_reduce.specs.Ring.{sizeOf}
-use Rattle.primus_lwe.proofs.Laws.{Packed, packable}
+use Rattle.primus_lwe.proofs.PackedLaws.{Packed, packable}
 use Rattle.primus_lwe.proofs.secret_key.packed.encrypt_encoded_packed.Statement.{statement}
 use Rattle.primus_lwe.proofs.secret_key.packed.encrypt_encoded_packed.Tie as tie
 

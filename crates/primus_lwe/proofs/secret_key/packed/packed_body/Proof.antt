@@ -3,7 +3,7 @@ use native.Mathlib.Omega.{arith}
 use lib.ListN.{length}
 use Rattle.scheme.specs.Lwe.{words, signed}
 use Rattle.primus_reduce.specs.Ring.{sizeOf}
-use Rattle.primus_lwe.proofs.Laws.{packed-body-is}
+use Rattle.primus_lwe.proofs.PackedLaws.{packed-body-is}
 use Rattle.primus_lwe.proofs.secret_key.packed.packed_body.Statement.{statement}
 use Rattle.primus_lwe.proofs.secret_key.packed.packed_body.Tie as tie
 
@@ -22,4 +22,4 @@ returns c =
 
 pub packed-body-spec : {M : Type 1} → statement M
 packed-body-spec =
-    tie.close (tie.spec rotated-mask-product-requires (λ c κs. c .before .before .before .pre .3) (λ c κs. tt) (λ c κs. tt) returns)
+    tie.close (tie.spec rotated-mask-product-requires (λ c κs. tt) (λ c κs. tt) (λ c κs. tt) returns)

@@ -1,8 +1,8 @@
 use mathlib.Core.Path.{refl, ap, _∙_}
 use Rattle.scheme.specs.Checks.{lengthFails}
 use Rattle.checks.proofs.Table.{none, _▹_, first}
-use Rattle.primus_lwe.specs.Answers.{packedPhaseRows, packedPhaseRefusal}
-use Rattle.primus_lwe.proofs.Laws.{with-dimension}
+use Rattle.primus_lwe.specs.Packed.{packedPhaseRows, packedPhaseRefusal}
+use Rattle.primus_lwe.proofs.Coded.{with-dimension}
 use Rattle.primus_lwe.proofs.secret_key.packed.packed_phase_refusal.Statement.{statement}
 use Rattle.primus_lwe.proofs.secret_key.packed.packed_phase_refusal.Tie as tie
 

@@ -1,7 +1,7 @@
 use mathlib.Core.Path.{refl, ap, _∙_}
 use Rattle.checks.proofs.Table.{none, _▹_, first}
-use Rattle.primus_lwe.specs.Answers.{packedRows, packedRefusal}
-use Rattle.primus_lwe.proofs.Laws.{with-dimension}
+use Rattle.primus_lwe.specs.Packed.{packedRows, packedRefusal}
+use Rattle.primus_lwe.proofs.Coded.{with-dimension}
 use Rattle.primus_lwe.proofs.secret_key.packed.packed_refusal.Statement.{statement}
 use Rattle.primus_lwe.proofs.secret_key.packed.packed_refusal.Tie as tie
 

@@ -4,7 +4,7 @@ use borrow.Author.Needs.{needs}
 use lib.ListN.{length}
 use Rattle.scheme.specs.Lwe.{words, signed}
 use Rattle.primus_reduce.specs.Ring.{sizeOf}
-use Rattle.primus_lwe.proofs.Laws.{packed-mask, packed-body}
+use Rattle.primus_lwe.proofs.PackedLaws.{packed-mask, packed-body}
 use Rattle.primus_lwe.proofs.secret_key.packed.packed_word.Statement.{statement}
 use Rattle.primus_lwe.proofs.secret_key.packed.packed_word.Tie as tie
 

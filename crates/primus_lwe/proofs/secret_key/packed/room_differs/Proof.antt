@@ -1,4 +1,4 @@
-use Rattle.primus_lwe.proofs.Laws.{room-short, room-rest}
+use Rattle.primus_lwe.proofs.PackedLaws.{room-short, room-rest}
 use Rattle.primus_lwe.proofs.secret_key.packed.room_differs.Statement.{statement}
 use Rattle.primus_lwe.proofs.secret_key.packed.room_differs.Tie as tie
 

@@ -6,7 +6,7 @@ use lib.ListN.{length}
 use lib.Seq.{length-take-le}
 use Rattle.scheme.specs.Lwe.{words}
 use Rattle.primus_reduce.specs.Ring.{sizeOf}
-use Rattle.primus_lwe.proofs.Laws.{dot-prefix, dot-suffix, rotated-is}
+use Rattle.primus_lwe.proofs.PackedLaws.{dot-prefix, dot-suffix, rotated-is}
 use Rattle.primus_lwe.proofs.secret_key.packed.rotated_mask_product.Statement.{statement}
 use Rattle.primus_lwe.proofs.secret_key.packed.rotated_mask_product.Tie as tie
 

@@ -5,7 +5,7 @@ use lib.ListN.{length}
 use Rattle.scheme.specs.Lwe.{words, signed, packed}
 use Rattle.scheme.proofs.InPlace.{Filled, filled-start, filled-next, filled-end}
 use Rattle.primus_reduce.specs.Ring.{sizeOf}
-use Rattle.primus_lwe.proofs.Laws.{packed-length}
+use Rattle.primus_lwe.proofs.PackedLaws.{packed-length}
 use Rattle.primus_lwe.proofs.secret_key.packed.write_packed.Statement.{statement}
 use Rattle.primus_lwe.proofs.secret_key.packed.write_packed.Tie as tie
 

@@ -1,0 +1,29 @@
+use mathlib.Core.Path.{_≡_}
+use mathlib.Core.List.{List}
+use borrow.Author.Needs.{needs}
+use Rattle.scheme.specs.Checks.{Check}
+use Rattle.scheme.proofs.Order.{Sized, early, late}
+use Rattle.primus_lwe.specs.Key.{keyOf}
+use Rattle.primus_lwe.specs.Answers.{decryptRows}
+use Rattle.primus_lwe.proofs.secret_key.message.decrypt_refusal.Statement.{statement}
+use Rattle.primus_lwe.proofs.secret_key.message.decrypt_refusal.Tie as tie
+
+abbrev rows : tie.After-first → List Check
+rows c =
+    let a = c .before .before .before .before .before .before .before .args in
+    decryptRows (a .params) (keyOf (a .form) (a .words .now) (a .signed .now)) (a .ciphertext .now)
+
+sized : (c : tie.After-first) → Sized (rows c) (c .first .result)
+sized c = c .first .ensures (rows c) (record { basis = search needs; parameters = search needs; lengths = search needs })
+
+returns : tie.Need-returns
+returns c = early (rows (c .before)) (sized (c .before)) (c .if1 .taken)
+
+returns-2 : tie.Need-returns-2
+returns-2 c =
+    let e = c .before .before in
+    let r = rows (e .before) in
+    late r (sized (e .before)) (e .if1 .left) (c .first2 .ensures r (search needs))
+
+pub decrypt-refusal-spec : {M : Type 1} → statement M
+decrypt-refusal-spec = tie.close (tie.spec (λ c κs. tt) (λ c κs. tt) (λ c κs. tt) (λ c κs. tt) returns (λ c κs. tt) (λ c κs. tt) returns-2)
