@@ -1,7 +1,7 @@
--- What the checks of a call leave.
+-- What the checks of a switch leave.
 -- Assumes nothing.
-use mathlib.Core.Path.{_≡_, sym, ap, ap₂, subst, _∙_}
-use mathlib.Core.Bool.{false}
+use mathlib.Core.Path.{_≡_, ap, ap₂, sym, subst, _∙_}
+use mathlib.Core.Bool.{Bool, false}
 use mathlib.Core.List.{List}
 use Prim.Native.Nat.{ℕ, _+_, _*_, _/_, _%_, _<_}
 use native.Mathlib.Nat.{div-add-mod}
@@ -9,83 +9,93 @@ use native.Mathlib.Omega.{arith}
 use lib.ListN.{length, getD}
 use borrow.Author.Tests.{eqb-true, not-false}
 use Rattle.scheme.specs.Switch.{switchedBatch}
-use Rattle.scheme.specs.Checks.{batchFails}
-use Rattle.scheme.proofs.Checks.{passed, passed-append, length-ok, words-ok}
+use Rattle.scheme.specs.Checks.{refusal, lengthFails, batchFails, wordsFail}
+use Rattle.scheme.proofs.Checks.{length-ok, words-ok}
+use Rattle.scheme.proofs.Order.{passed, neither}
 use Rattle.primus_reduce.specs.Ring.{sizeOf}
 use Rattle.primus_decompose.specs.declared.primitive.prepared.PreparedBasis.{PreparedBasis}
+use Rattle.primus_decompose.specs.declared.error.PreparedBasisAnswer.{PreparedBasisAnswer}
 use Rattle.primus_decompose.specs.declared.error.PreparedBasisAnswer.the-variants as A
-use Rattle.primus_decompose.specs.Answers.{basis}
-use Rattle.primus_decompose.specs.Prepared.{Ready, basisIn, preparedOf}
-use Rattle.key_switch_key.specs.declared.parameters.LweKeySwitchingParameters.{LweKeySwitchingParameters}
-use Rattle.key_switch_key.specs.declared.parameters.Sizes.{Sizes}
-use Rattle.key_switch_key.specs.Answers.{sizesOf, parameterRows}
-use Rattle.key_switch.specs.Answers.{batchRows, batchRefusal, switchRows, switchRefusal, Switchable}
+use Rattle.primus_decompose.specs.Answers.{basis, preparedBy, preparedAnswer, WhereReady}
+use Rattle.primus_decompose.specs.Prepared.{Ready, basisIn}
 use Rattle.key_switch_tile.specs.Tile.{Shaped}
-use Rattle.key_switch_key.proofs.Passed.{parameters-passed}
-
--- ---- switches
+use Rattle.key_switch_key.specs.declared.parameters.LweKeySwitchingParameters.{LweKeySwitchingParameters}
+use Rattle.key_switch_key.specs.Answers.{qIn, nIn, mIn}
+use Rattle.key_switch_key.proofs.Passed.{prepared-made, prepared-not, judged}
+use Rattle.key_switch.specs.Answers.{inputRows, switchRows, batchRows, Switchable}
 
 batch-whole : (len n : ℕ) → batchFails len n ≡ false → len ≡ len / (n + 1) * (n + 1)
 batch-whole len n e = omega (arith, div-add-mod len (n + 1), eqb-true (len % (n + 1)) 0 (not-false _ e))
 
 module _ (P : LweKeySwitchingParameters) (key input : List ℕ) (room : ℕ) where
-  pub batch-passed : batchRefusal P key input room ≡ 0 → Switchable P key input (length input / (P .«input_dimension» .0 + 1)) room
-  unfolding batchRefusal
-  batch-passed e =
-      let ds = batchRows (sizesOf P) key input room in
-      let p = passed-append (parameterRows P) ds tt e in
-      let b = parameters-passed P (p .0) in
-      let q = passed ds tt (p .1) in
+  -- what both leave, where the lengths are those of `count` ciphertexts
+  switchable : (bad wrong : Bool) (count : ℕ) → refusal (inputRows P key input bad wrong) ≡ 0 → length input ≡ count * (nIn P + 1) → room ≡ count * (mIn P + 1)
+      → Switchable P key input count room
+  switchable bad wrong count e inputs fits =
+      let no = passed (inputRows P key input bad wrong) e in
+      let j = judged P _ e in
+      let words = neither (wordsFail (qIn P) key) (wordsFail (qIn P) input) (no 14 tt) in
       record {
-        accepted = b .0;
-        short = b .2;
-        narrow = b .4;
-        keyed = length-ok _ _ (q .0);
-        inputs = batch-whole (length input) (P .«input_dimension» .0) (q .1 .0);
-        fits = length-ok _ _ (q .1 .1 .0);
-        keys = words-ok _ key (q .1 .1 .1 .0);
-        words = words-ok _ input (q .1 .1 .1 .1 .0);
+        accepted = j .accepted;
+        short = j .input-most;
+        narrow = j .output-most;
+        keyed = length-ok _ _ (no 9 tt);
+        inputs = inputs;
+        fits = fits;
+        keys = words-ok _ key (words .0);
+        words = words-ok _ input (words .1);
       }
 
-  pub switch-passed : switchRefusal P key input room ≡ 0 → (length input ≡ P .«input_dimension» .0 + 1) × Switchable P key input 1 room
-  unfolding switchRefusal
-  switch-passed e =
-      let ds = switchRows (sizesOf P) key input room in
-      let p = passed-append (parameterRows P) ds tt e in
-      let b = parameters-passed P (p .0) in
-      let q = passed ds tt (p .1) in
-      let l : length input ≡ P .«input_dimension» .0 + 1 = length-ok _ _ (q .1 .0) in
-      let o : room ≡ P .«output_dimension» .0 + 1 = length-ok _ _ (q .1 .1 .0) in (
-        l,
-        record {
-          accepted = b .0;
-          short = b .2;
-          narrow = b .4;
-          keyed = length-ok _ _ (q .0);
-          inputs = omega arith;
-          fits = omega arith;
-          keys = words-ok _ key (q .1 .1 .1 .0);
-          words = words-ok _ input (q .1 .1 .1 .1 .0);
-        },
-      )
+  pub batch-passed : refusal (batchRows P key input room) ≡ 0 → Switchable P key input (length input / (nIn P + 1)) room
+  batch-passed e =
+      let no = passed (batchRows P key input room) e in
+      switchable _ _ _ e (batch-whole (length input) (nIn P) (no 10 tt)) (length-ok _ _ (no 11 tt))
 
--- what the tiles ask, with the numbers at hand
-module _ (P : LweKeySwitchingParameters) (key input : List ℕ) (count room : ℕ) (s : Switchable P key input count room) (z : Sizes) (ez : z ≡ sizesOf P)
-    (p : PreparedBasis) (ep : p ≡ preparedOf (P .basis .modulus) (P .basis .«log_basis» .0) (P .basis .«level_count» .0)) where
-  pub tiles-ask : Ready p → Shaped p (z .n) (z .m) count input key × (room ≡ count * (z .m + 1))
-  tiles-ask r =
-      rw ez (
-        record {
-          ready = r;
-          narrow = s .narrow;
-          short = s .short;
-          inputs = s .inputs;
-          keyed = s .keyed ∙ ap (λ x. P .«input_dimension» .0 * x .«level_count» * (P .«output_dimension» .0 + 1)) (sym ep);
-          words = λ i h. subst (λ x. getD input i 0 < sizeOf (x .modulus)) (sym ep) (s .words i h);
-          keys = λ i h. subst (λ x. getD key i 0 < sizeOf (x .modulus)) (sym ep) (s .keys i h);
-        },
-        s .fits,
-      )
+  pub rows-passed : {count : ℕ} → count ≡ length input / (nIn P + 1) → refusal (batchRows P key input room) ≡ 0 → Switchable P key input count room
+  rows-passed c e = subst (λ n. Switchable P key input n room) (sym c) (batch-passed e)
 
-  pub tiles-are : switchedBatch (basisIn p) (z .n) (z .m) key count input ≡ switchedBatch (basis (P .basis)) (P .«input_dimension» .0) (P .«output_dimension» .0) key count input
-  tiles-are = ap₂ (λ x y. switchedBatch (basisIn x) (y .n) (y .m) key count input) ep ez
+  pub one-passed : refusal (switchRows P key input room) ≡ 0 → (length input ≡ nIn P + 1) × Switchable P key input 1 room
+  one-passed e =
+      let no = passed (switchRows P key input room) e in
+      let l : length input ≡ nIn P + 1 = length-ok _ _ (no 10 tt) in
+      let o : room ≡ mIn P + 1 = length-ok _ _ (no 11 tt) in
+      (l, switchable _ _ 1 e (omega arith) (omega arith))
+
+  -- the refusals, by the numbers at hand
+  module _ {r : ℕ} {bad wrong : Bool} (e : r ≡ refusal (inputRows P key input bad wrong)) where
+    pub one-number : bad ≡ lengthFails (length input) (nIn P + 1) → wrong ≡ lengthFails room (mIn P + 1) → r ≡ refusal (switchRows P key input room)
+    one-number b w = e ∙ ap₂ (λ b w. refusal (inputRows P key input b w)) b w
+
+    pub batch-number : {n m count : ℕ} → n ≡ nIn P → m ≡ mIn P → count ≡ length input / (n + 1) → bad ≡ batchFails (length input) n → wrong ≡ lengthFails room (count * (m + 1))
+        → r ≡ refusal (batchRows P key input room)
+    batch-number {n} {m} {count} en em ec b w =
+        e ∙ ap₂ (λ b w. refusal (inputRows P key input b w)) (b ∙ ap (batchFails (length input)) en)
+        (w ∙ ap₂ (λ x y. lengthFails room (x * (y + 1))) (ec ∙ ap (λ n. length input / (n + 1)) en) em)
+
+-- what the tiles ask, with the basis prepared and the numbers at hand
+module _ {P : LweKeySwitchingParameters} {key input : List ℕ} {count room : ℕ} (s : Switchable P key input count room)
+    {r : PreparedBasisAnswer} (er : (r ≡ preparedAnswer (P .basis)) × WhereReady r) where
+  pub switches-ready : {k : ℕ} → r ≡ A.Refused k → ⊥
+  switches-ready f = prepared-not (P .basis) (s .accepted) er f
+
+  module _ {p : PreparedBasis} (f : r ≡ A.Ready p) {n m : ℕ} (en : n ≡ nIn P) (em : m ≡ mIn P) where
+    ep : p ≡ preparedBy (P .basis)
+    ep = prepared-made (P .basis) (s .accepted) er f .0
+
+    pub tiles-ask : Shaped p n m count input key × (room ≡ count * (m + 1))
+    tiles-ask =
+        rw (en, em) (
+          record {
+            ready = prepared-made (P .basis) (s .accepted) er f .1;
+            narrow = s .narrow;
+            short = s .short;
+            inputs = s .inputs;
+            keyed = s .keyed ∙ ap (λ x. nIn P * x .«level_count» * (mIn P + 1)) (sym ep);
+            words = λ i h. subst (λ x. getD input i 0 < sizeOf (x .modulus)) (sym ep) (s .words i h);
+            keys = λ i h. subst (λ x. getD key i 0 < sizeOf (x .modulus)) (sym ep) (s .keys i h);
+          },
+          s .fits,
+        )
+
+    pub tiles-are : switchedBatch (basisIn p) n m key count input ≡ switchedBatch (basis (P .basis)) (nIn P) (mIn P) key count input
+    tiles-are = ap₂ (λ n m. switchedBatch (basisIn p) n m key count input) en em ∙ ap (λ x. switchedBatch (basisIn x) (nIn P) (mIn P) key count input) ep

@@ -1,52 +1,57 @@
--- The refusals of the calls, and their answers.
+-- What the two calls are judged by, and what they promise.
 use mathlib.Core.Path.{_≡_}
+use mathlib.Core.Bool.{Bool}
 use mathlib.Core.List.{List, [], _∷_, _++_}
 use Prim.Native.Nat.{ℕ, _+_, _*_, _/_, _≤_}
 use lib.ListN.{length}
-use Rattle.scheme.specs.Switch.{Below}
-use Rattle.scheme.specs.Checks.{Check, row, firstOf, lengthFails, batchFails, wordsFail}
-use Rattle.primus_reduce.specs.Ring.{sizeOf}
-use Rattle.primus_decompose.specs.declared.error.ApproxSignedBasisAnswer.the-variants as B
-use Rattle.primus_decompose.specs.Answers.{rows}
-use Rattle.primus_lattice.specs.declared.dimension.LweDimensionAnswer.the-variants as D
+use Rattle.scheme.specs.Switch.{Below, switched, switchedBatch}
+use Rattle.scheme.specs.Checks.{Check, row, refusal, Writes, lengthFails, batchFails, wordsFail}
+use Rattle.primus_decompose.specs.Answers.{basis, rows}
 use Rattle.key_switch_key.specs.declared.parameters.LweKeySwitchingParameters.{LweKeySwitchingParameters}
-use Rattle.key_switch_key.specs.declared.parameters.LweKeySwitchingParametersAnswer.the-variants as A
-use Rattle.key_switch_key.specs.declared.parameters.Sizes.{Sizes}
-use Rattle.key_switch_key.specs.Answers.{sizesOf, parameterRows}
+use Rattle.key_switch_key.specs.Answers.{qIn, nIn, mIn, keyWords, parameterRows}
 
--- a batch of `input` into `room` words: also 9, 10, 11 and 14, the key before the input
-abbrev pub batchRows : Sizes → List ℕ → List ℕ → ℕ → List Check
-batchRows z key input room =
-    row (lengthFails (length key) (z .n * z .levels * (z .m + 1))) 9
-    ∷ row (batchFails (length input) (z .n)) 10
-    ∷ row (lengthFails room (length input / (z .n + 1) * (z .m + 1))) 11
-    ∷ row (wordsFail (sizeOf (z .modulus)) key) 14
-    ∷ row (wordsFail (sizeOf (z .modulus)) input) 14
+-- what both judge, where 10 says `bad` of the input's length and 11 `wrong` of the output's
+abbrev pub inputRows : LweKeySwitchingParameters → List ℕ → List ℕ → Bool → Bool → List Check
+inputRows P key input bad wrong =
+    parameterRows P
+    ++ row (lengthFails (length key) (keyWords P)) 9
+    ∷ row bad 10
+    ∷ row wrong 11
+    ∷ row (wordsFail (qIn P) key) 14
+    ∷ row (wordsFail (qIn P) input) 14
     ∷ []
 
-unfoldable pub batchRefusal : LweKeySwitchingParameters → List ℕ → List ℕ → ℕ → ℕ
-batchRefusal P key input room = firstOf (parameterRows P ++ batchRows (sizesOf P) key input room)
+-- one ciphertext into `room` words: "10. A single ciphertext is not n + 1 words", "11. An output has the wrong length."
+abbrev pub switchRows : LweKeySwitchingParameters → List ℕ → List ℕ → ℕ → List Check
+switchRows P key input room =
+    inputRows P key input (lengthFails (length input) (nIn P + 1)) (lengthFails room (mIn P + 1))
 
--- one ciphertext
-abbrev pub switchRows : Sizes → List ℕ → List ℕ → ℕ → List Check
-switchRows z key input room =
-    row (lengthFails (length key) (z .n * z .levels * (z .m + 1))) 9
-    ∷ row (lengthFails (length input) (z .n + 1)) 10
-    ∷ row (lengthFails room (z .m + 1)) 11
-    ∷ row (wordsFail (sizeOf (z .modulus)) key) 14
-    ∷ row (wordsFail (sizeOf (z .modulus)) input) 14
-    ∷ []
+-- a batch into `room` words: "10. … a batch is not a multiple of it"
+abbrev pub batchRows : LweKeySwitchingParameters → List ℕ → List ℕ → ℕ → List Check
+batchRows P key input room =
+    inputRows P key input
+    (batchFails (length input) (nIn P)) (lengthFails room (length input / (nIn P + 1) * (mIn P + 1)))
 
-unfoldable pub switchRefusal : LweKeySwitchingParameters → List ℕ → List ℕ → ℕ → ℕ
-switchRefusal P key input room = firstOf (parameterRows P ++ switchRows (sizesOf P) key input room)
+-- "Output is (0, b) minus the sum of digit(i, j) × entry(i, j) modulo q"
+pub record Switches (P : LweKeySwitchingParameters) (key input before : List ℕ) (r : ℕ) (after : List ℕ)
+    : Type 0 where
+  pub writes :
+      Writes (switchRows P key input (length before)) (switched (basis (P .basis)) (nIn P) (mIn P) key input) before r after
 
--- what they leave, for `count` ciphertexts
+-- "Input and output are runs of ciphertexts": row t of the output is the one switch of row t of the input
+pub record SwitchesBatch (P : LweKeySwitchingParameters) (key input before : List ℕ) (r : ℕ) (after : List ℕ)
+    : Type 0 where
+  pub writes :
+      Writes (batchRows P key input (length before))
+      (switchedBatch (basis (P .basis)) (nIn P) (mIn P) key (length input / (nIn P + 1)) input) before r after
+
+-- what the checks leave, for `count` ciphertexts into `room` words
 pub record Switchable (P : LweKeySwitchingParameters) (key input : List ℕ) (count room : ℕ) : Type 0 where
-  pub accepted : firstOf (rows (P .basis)) ≡ 0
-  pub short : P .«input_dimension» .0 ≤ 2048
-  pub narrow : P .«output_dimension» .0 ≤ 2048
-  pub keyed : length key ≡ P .«input_dimension» .0 * P .basis .«level_count» .0 * (P .«output_dimension» .0 + 1)
-  pub inputs : length input ≡ count * (P .«input_dimension» .0 + 1)
-  pub fits : room ≡ count * (P .«output_dimension» .0 + 1)
-  pub keys : Below (sizeOf (P .basis .modulus)) key
-  pub words : Below (sizeOf (P .basis .modulus)) input
+  pub accepted : refusal (rows (P .basis)) ≡ 0
+  pub short : nIn P ≤ 2048
+  pub narrow : mIn P ≤ 2048
+  pub keyed : length key ≡ keyWords P
+  pub inputs : length input ≡ count * (nIn P + 1)
+  pub fits : room ≡ count * (mIn P + 1)
+  pub keys : Below (qIn P) key
+  pub words : Below (qIn P) input

@@ -11,7 +11,7 @@ use Rattle.scheme.specs.Numbers.{residue, Cong}
 use Rattle.scheme.proofs.Integers.{⊖-eq, diff}
 use Rattle.scheme.proofs.Residue.{cong-refl, cong-sym, cong-residue}
 use Rattle.scheme.proofs.InPlace.{Filled, filled-word, length-zip, zip-at, map-at}
-use Rattle.key_switch_tile.specs.Rows.{Near, Spare, Less}
+use Rattle.key_switch_tile.specs.Rows.{Spare, Less}
 use Rattle.key_switch_explicit.specs.Rows.{Roomy, Kept}
 
 -- a word y of at most q: a × y and a × (q − y) are at most a × q

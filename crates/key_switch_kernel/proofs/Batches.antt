@@ -1,13 +1,12 @@
 -- The loop over the tiles of a batch.
 -- Assumes nothing.
-use mathlib.Core.Path.{_≡_, refl, sym, _∙_, ap, ap₂, subst}
+use mathlib.Core.Path.{_≡_, sym, _∙_, ap, ap₂, subst}
 use mathlib.Core.List.{List, _++_}
 use Prim.Native.Nat.{ℕ, _+_, _*_, _-_, _<_, _≤_, min}
 use native.Mathlib.Omega.{arith}
 use native.Mathlib.Nat.{mul-le-mul, mul-le-mul-right, add-mul}
-use lib.ListN.{length, getD, take, drop, length-take, length-drop}
+use lib.ListN.{length, take, drop, length-take, length-drop}
 use lib.Seq.{length-take-le, length-front, getD-take, getD-drop}
-use Rattle.scheme.specs.Numbers.{rowsOf}
 use Rattle.scheme.specs.Lwe.{rowOf}
 use Rattle.scheme.specs.Switch.{Below, switched, switchedBatch}
 use Rattle.scheme.proofs.Rows.{Filling, filling-start, filling-group, filling-end, rows-ext, part-of-part}

@@ -1,8 +1,8 @@
--- What the checks of a call leave.
+-- What the checks of parameters and of a key leave.
 -- Assumes nothing.
-use mathlib.Core.Path.{_≡_, refl, sym, ap, _∙_}
+use mathlib.Core.Path.{_≡_, refl, sym, ap, subst, _∙_}
 use mathlib.Core.Bool.{Bool, true, false, not, _||_}
-use mathlib.Core.List.{List, [], _∷_}
+use mathlib.Core.List.{List, [], _++_}
 use Prim.Native.Nat.{ℕ, suc, _+_, _-_, _*_, _<_, _≤_}
 use native.Mathlib.Nat.{mul-le-mul-right, suc-mul}
 use native.Mathlib.Omega.{arith}
@@ -11,44 +11,50 @@ use lib.Dec.{eqb, leb}
 use lib.ListN.{length, take, drop}
 use borrow.Author.Tests.{eq-eqb, ne-eqb, eqb-true, le-leb, lt-leb, leb-false}
 use Rattle.scheme.specs.Switch.{entryOf}
-use Rattle.scheme.specs.Checks.{row, firstOf, dimensionFails, lengthFails}
-use Rattle.scheme.proofs.Checks.{passed, passed-append, dimension-ok, length-ok}
+use Rattle.scheme.specs.Checks.{Check, refusal, dimensionFails}
+use Rattle.scheme.proofs.Checks.{dimension-ok, length-ok}
+use Rattle.scheme.proofs.Order.{passed, passed-part, neither}
 use Rattle.primus_decompose.specs.declared.primitive.basis.ApproxSignedBasis.{ApproxSignedBasis}
 use Rattle.primus_decompose.specs.declared.primitive.prepared.PreparedBasis.{PreparedBasis}
 use Rattle.primus_decompose.specs.declared.error.PreparedBasisAnswer.{PreparedBasisAnswer}
 use Rattle.primus_decompose.specs.declared.error.PreparedBasisAnswer.the-variants as A
-use Rattle.primus_decompose.specs.Answers.{basis, rows, preparedAnswer}
-use Rattle.primus_decompose.specs.Prepared.{Ready, preparedOf}
+use Rattle.primus_decompose.specs.Answers.{rows, preparedAnswer, preparedBy, WhereReady}
+use Rattle.primus_decompose.specs.Prepared.{Ready}
 use Rattle.key_switch_key.specs.declared.parameters.LweKeySwitchingParameters.{LweKeySwitchingParameters}
-use Rattle.key_switch_key.specs.declared.parameters.Sizes.{Sizes}
-use Rattle.key_switch_key.specs.Answers.{sizesOf, parameterRows, keyRefusal, entryMissing, entryAnswer}
+use Rattle.key_switch_key.specs.Answers.{nIn, mIn, levelsIn, parameterRows, keyWords, entryRows, entryMissing, entryAnswer}
 
 -- ---- an accepted basis is prepared
 
-module _ (b : ApproxSignedBasis) (z : firstOf (rows b) ≡ 0) (r : PreparedBasisAnswer) (e : r ≡ preparedAnswer b) where
-  answer-is : r ≡ A.Ready (preparedOf (b .modulus) (b .«log_basis» .0) (b .«level_count» .0))
-  answer-is = e ∙ plain
+module _ (b : ApproxSignedBasis) (z : refusal (rows b) ≡ 0) {r : PreparedBasisAnswer} (e : (r ≡ preparedAnswer b) × WhereReady r) where
+  answer-is : r ≡ A.Ready (preparedBy b)
+  answer-is = e .0 ∙ plain
     where
-      plain : preparedAnswer b ≡ A.Ready (preparedOf (b .modulus) (b .«log_basis» .0) (b .«level_count» .0))
-      plain = rw (eq-eqb (firstOf (rows b)) 0 z)
+      plain : preparedAnswer b ≡ A.Ready (preparedBy b)
+      plain = rw (eq-eqb (refusal (rows b)) 0 z)
 
-  pub prepared-made : (p : PreparedBasis) → r ≡ A.Ready p → p ≡ preparedOf (b .modulus) (b .«log_basis» .0) (b .«level_count» .0)
-  prepared-made p f = let g : A.Ready p ≡ A.Ready (preparedOf (b .modulus) (b .«log_basis» .0) (b .«level_count» .0)) = sym f ∙ answer-is in cc
+  pub prepared-made : {p : PreparedBasis} → r ≡ A.Ready p → (p ≡ preparedBy b) × Ready p
+  prepared-made {p} f = let g : A.Ready p ≡ A.Ready (preparedBy b) = sym f ∙ answer-is in (cc, subst WhereReady f (e .1))
 
-  pub prepared-not : (k : ℕ) → r ≡ A.Refused k → ⊥
-  prepared-not k f = let g : A.Refused k ≡ A.Ready (preparedOf (b .modulus) (b .«log_basis» .0) (b .«level_count» .0)) = sym f ∙ answer-is in let k : _≡_ {A = ℕ} 0 1 = cc in omega arith
+  pub prepared-not : {k : ℕ} → r ≡ A.Refused k → ⊥
+  prepared-not {k} f = let g : A.Refused k ≡ A.Ready (preparedBy b) = sym f ∙ answer-is in let k : _≡_ {A = ℕ} 0 1 = cc in omega arith
 
 -- ---- parameters
 
-pub parameters-passed : (P : LweKeySwitchingParameters) → firstOf (parameterRows P) ≡ 0
-    → (firstOf (rows (P .basis)) ≡ 0) × (1 ≤ P .«input_dimension» .0) × (P .«input_dimension» .0 ≤ 2048) × (1 ≤ P .«output_dimension» .0) × (P .«output_dimension» .0 ≤ 2048)
-parameters-passed P e =
-    let ds = row (dimensionFails (P .«input_dimension» .0)) 6 ∷ row (dimensionFails (P .«output_dimension» .0)) 6 ∷ [] in
-    let p = passed-append (rows (P .basis)) ds tt e in
-    let q = passed ds tt (p .1) in
-    let n = dimension-ok (P .«input_dimension» .0) (q .0) in
-    let m = dimension-ok (P .«output_dimension» .0) (q .1 .0) in
-    (p .0, n .0, n .1, m .0, m .1)
+pub record Judged (P : LweKeySwitchingParameters) : Type 0 where
+  pub accepted : refusal (rows (P .basis)) ≡ 0
+  pub input-some : 1 ≤ nIn P
+  pub input-most : nIn P ≤ 2048
+  pub output-some : 1 ≤ mIn P
+  pub output-most : mIn P ≤ 2048
+
+-- what 1 to 6 leave, of a call that judges more besides
+pub judged : (P : LweKeySwitchingParameters) (more : List Check) → refusal (parameterRows P ++ more) ≡ 0 → Judged P
+judged P more e =
+    let z : refusal (parameterRows P) ≡ 0 = passed-part (parameterRows P) more e in
+    let six = neither (dimensionFails (nIn P)) (dimensionFails (mIn P)) (passed (parameterRows P) z 6 tt) in
+    let n = dimension-ok (nIn P) (six .0) in
+    let m = dimension-ok (mIn P) (six .1) in
+    record { accepted = passed-part (rows (P .basis)) _ z; input-some = n .0; input-most = n .1; output-some = m .0; output-most = m .1 }
 
 -- ---- entries
 
@@ -72,31 +78,27 @@ module _ (R n i L j : ℕ) where
       go true e true f c g h = let z : true ≡ false = h in let k : _≡_ {A = ℕ} 0 1 = cc in absurd (omega arith)
       go false e b f c g h = let z : true ≡ false = h in let k : _≡_ {A = ℕ} 0 1 = cc in absurd (omega arith)
 
-module _ (P : LweKeySwitchingParameters) (key : List ℕ) (i j : ℕ) (h : entryMissing P (length key) i j ≡ false) (z : Sizes) (ez : z ≡ sizesOf P) where
+module _ (P : LweKeySwitchingParameters) (key : List ℕ) (i j : ℕ) (h : entryMissing P (length key) i j ≡ false) (L m : ℕ) (el : L ≡ levelsIn P) (em : m ≡ mIn P) where
   -- the entry lies within the key
-  pub entry-within : ((i * z .levels + j) * (z .m + 1) + (z .m + 1) ≤ length key) × (z .m ≤ 2048)
-  unfolding keyRefusal
+  pub entry-within : ((i * L + j) * (m + 1) + (m + 1) ≤ length key) × (m ≤ 2048)
   entry-within =
-      rw ez
-      (let g = present (keyRefusal P (sizesOf P) (length key)) (P .«input_dimension» .0) i (P .basis .«level_count» .0) j h in
-      let p = passed-append (parameterRows P) (row (lengthFails (length key) (P .«input_dimension» .0 * P .basis .«level_count» .0 * (P .«output_dimension» .0 + 1))) 9 ∷ []) tt (g .0) in
-      let k : length key ≡ P .«input_dimension» .0 * P .basis .«level_count» .0 * (P .«output_dimension» .0 + 1)
-      = length-ok _ _ (passed (row (lengthFails (length key) (P .«input_dimension» .0 * P .basis .«level_count» .0 * (P .«output_dimension» .0 + 1))) 9 ∷ []) tt (p .1) .0) in
-      (within (P .«input_dimension» .0) (P .basis .«level_count» .0) (P .«output_dimension» .0) (g .1) (g .2) k, parameters-passed P (p .0) .4))
+      let g = present (refusal (entryRows P (length key))) (nIn P) i (levelsIn P) j h in
+      let k : length key ≡ keyWords P = length-ok _ _ (passed (entryRows P (length key)) (g .0) 9 tt) in
+      rw (el, em) (within (nIn P) (levelsIn P) (mIn P) (g .1) (g .2) k, judged P _ (g .0) .output-most)
     where
       within : (n L m : ℕ) → i < n → j < L → length key ≡ n * L * (m + 1) → (i * L + j) * (m + 1) + (m + 1) ≤ length key
       within n L m a b e =
           let k : suc (i * L + j) * (m + 1) ≤ n * L * (m + 1) = mul-le-mul-right (m + 1) (digits-lt a b) in
           omega (arith, k, suc-mul (i * L + j) (m + 1))
 
-  pub entry-is : take ((i * z .levels + j) * (z .m + 1) + (z .m + 1) - (i * z .levels + j) * (z .m + 1)) (drop ((i * z .levels + j) * (z .m + 1)) key) ≡ entryAnswer P key i j
-  entry-is = ap (λ k. take k (drop ((i * z .levels + j) * (z .m + 1)) key)) (wide ((i * z .levels + j) * (z .m + 1)) (z .m + 1)) ∙ ap (λ z. entryOf (z .levels) (z .m) key i j) ez ∙ sym picked
+  pub entry-is : take ((i * L + j) * (m + 1) + (m + 1) - (i * L + j) * (m + 1)) (drop ((i * L + j) * (m + 1)) key) ≡ entryAnswer P key i j
+  entry-is = ap (λ k. take k (drop ((i * L + j) * (m + 1)) key)) (wide ((i * L + j) * (m + 1)) (m + 1)) ∙ sym picked
     where
       wide : (a w : ℕ) → a + w - a ≡ w
       wide a w = omega arith
 
-      picked : entryAnswer P key i j ≡ entryOf (P .basis .«level_count» .0) (P .«output_dimension» .0) key i j
-      picked = rw h
+      picked : entryAnswer P key i j ≡ entryOf L m key i j
+      picked = rw (h, el, em)
 
 pub entry-none : (P : LweKeySwitchingParameters) (key : List ℕ) (i j : ℕ) → entryMissing P (length key) i j ≡ true → entryAnswer P key i j ≡ []
 entry-none P key i j h = rw h

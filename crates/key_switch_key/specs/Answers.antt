@@ -1,116 +1,107 @@
--- The refusals of parameters and keys, and their answers.
+-- What parameters and keys are judged by, and what the calls promise.
 use mathlib.Core.Path.{_≡_}
-use mathlib.Core.Bool.{Bool, false, not, _||_}
+use mathlib.Core.Bool.{Bool, not, _||_}
 use mathlib.Core.List.{List, [], _∷_, _++_}
-use Prim.Native.Nat.{ℕ, _+_, _*_, _<_, _≤_}
-use lib.IntN.{ℤ}
+use Prim.Native.Nat.{ℕ, _+_, _*_}
 use lib.Dec.{eqb, leb}
-use lib.ListN.{length, getD}
+use lib.IntN.{ℤ}
+use lib.ListN.{length}
 use Rattle.scheme.specs.Numbers.{pick}
-use Rattle.scheme.specs.Switch.{entryOf}
-use Rattle.scheme.specs.Checks.{Check, row, firstOf, dimensionFails, modulusFails, lengthFails, boundFails, wordsFail, errorsFail}
-use Rattle.primus_reduce.specs.Ring.{meant, sizeOf}
-use Rattle.primus_lwe.specs.declared.parameter.LweEncryptionParameters.{LweEncryptionParameters}
-use Rattle.scheme.specs.Basis.{weight}
-use Rattle.primus_decompose.specs.declared.primitive.prepared.PreparedBasis.{PreparedBasis}
+use Rattle.scheme.specs.Lwe.{Key, words, signed, secretOf, keyLength}
+use Rattle.scheme.specs.Switch.{entryOf, generated}
+use Rattle.scheme.specs.Checks.{Check, row, refusal, Writes, dimensionFails, lengthFails}
+use Rattle.scheme.specs.Checks.{boundFails, wordsFail, keyFails, errorsFail}
+use Rattle.primus_reduce.specs.Ring.{sizeOf}
 use Rattle.primus_reduce.specs.declared.modulus.Modulus.{Modulus}
-use Rattle.primus_decompose.specs.declared.error.ApproxSignedBasisAnswer.{ApproxSignedBasisAnswer}
-use Rattle.primus_decompose.specs.declared.error.ApproxSignedBasisAnswer.the-variants as B
-use Rattle.primus_decompose.specs.declared.parameters.RetainedLevels.{RetainedLevels}
-use Rattle.primus_decompose.specs.declared.primitive.basis.ApproxSignedBasis.{ApproxSignedBasis}
-use Rattle.primus_decompose.specs.Answers.{rows, made}
-use Rattle.primus_lattice.specs.declared.dimension.LweDimensionAnswer.{LweDimensionAnswer}
-use Rattle.primus_lattice.specs.declared.dimension.LweDimensionAnswer.the-variants as D
-use Rattle.primus_lattice.specs.Answers.{dimensionAnswer}
-use Rattle.primus_decompose.specs.Prepared.{Ready, basisIn}
+use Rattle.primus_decompose.specs.Answers.{basis, rows, basisWith, preparedBy}
+use Rattle.primus_decompose.specs.Prepared.{Ready}
+use Rattle.primus_decompose.specs.declared.primitive.prepared.PreparedBasis.{PreparedBasis}
 use Rattle.key_switch_key.specs.declared.parameters.LweKeySwitchingParameters.{LweKeySwitchingParameters}
-use Rattle.key_switch_key.specs.declared.parameters.LweKeySwitchingParametersAnswer.{LweKeySwitchingParametersAnswer}
-use Rattle.key_switch_key.specs.declared.parameters.LweKeySwitchingParametersAnswer.the-variants as A
-use Rattle.key_switch_key.specs.declared.parameters.Sizes.{Sizes}
+use Rattle.key_switch_key.specs.declared.parameters.LweKeySwitchingParametersAnswer.{
+  LweKeySwitchingParametersAnswer,
+}
+use Rattle.key_switch_key.specs.declared.parameters.LweKeySwitchingParametersAnswer.the-variants.{
+  Accepted,
+  Refused,
+}
+
+-- ---- parameters
 
 -- q, n, m and L
-abbrev pub sizesOf : LweKeySwitchingParameters → Sizes
-sizesOf P = record { modulus = P .basis .modulus; n = P .«input_dimension» .0; m = P .«output_dimension» .0; levels = P .basis .«level_count» .0 }
+abbrev pub qIn : LweKeySwitchingParameters → ℕ
+qIn P = sizeOf (P .basis .modulus)
 
--- 1 to 5, and 6 for n and m
+abbrev pub nIn : LweKeySwitchingParameters → ℕ
+nIn P = P .«input_dimension» .0
+
+abbrev pub mIn : LweKeySwitchingParameters → ℕ
+mIn P = P .«output_dimension» .0
+
+abbrev pub levelsIn : LweKeySwitchingParameters → ℕ
+levelsIn P = P .basis .«level_count» .0
+
+-- the basis judges 1 to 5, and n and m 6
 abbrev pub parameterRows : LweKeySwitchingParameters → List Check
-parameterRows P = rows (P .basis) ++ row (dimensionFails (P .«input_dimension» .0)) 6 ∷ row (dimensionFails (P .«output_dimension» .0)) 6 ∷ []
+parameterRows P = rows (P .basis) ++ row (dimensionFails (nIn P)) 6 ∷ row (dimensionFails (mIn P)) 6 ∷ []
 
 abbrev pub parametersAnswer : LweKeySwitchingParameters → LweKeySwitchingParametersAnswer
-parametersAnswer P = pick (eqb (firstOf (parameterRows P)) 0) (A.Accepted P) (A.Refused (firstOf (parameterRows P)))
+parametersAnswer P = pick (eqb (refusal (parameterRows P)) 0) (Accepted P) (Refused (refusal (parameterRows P)))
 
--- from plain numbers: 1 to 5 of the basis, then 6 of n, then of m
-abbrev pub dimensionsFrom : ApproxSignedBasis → LweDimensionAnswer → LweDimensionAnswer → LweKeySwitchingParametersAnswer
-dimensionsFrom b (D.Accepted n) (D.Accepted m) = A.Accepted (record { basis = b; «input_dimension» = n; «output_dimension» = m })
-dimensionsFrom b (D.Accepted n) (D.Refused r) = A.Refused r
-dimensionsFrom b (D.Refused r) m = A.Refused r
+-- of plain numbers: q, base log, levels (0: left open), n and m
+abbrev pub parametersWith : Modulus → ℕ → ℕ → ℕ → ℕ → LweKeySwitchingParameters
+parametersWith q log levels n m =
+    record {
+      basis = basisWith q log levels;
+      «input_dimension» = record { 0 = n };
+      «output_dimension» = record { 0 = m };
+    }
 
-abbrev pub parametersFrom : ApproxSignedBasisAnswer → LweDimensionAnswer → LweDimensionAnswer → LweKeySwitchingParametersAnswer
-parametersFrom (B.Accepted b) n m = dimensionsFrom b n m
-parametersFrom (B.Refused r) n m = A.Refused r
+-- ---- the key
 
-abbrev pub parametersFor : Modulus → ℕ → RetainedLevels → ℕ → ℕ → LweKeySwitchingParametersAnswer
-parametersFor q log levels n m = parametersFrom (made q log levels) (dimensionAnswer n) (dimensionAnswer m)
+-- "The key holds, for mask place i and level j, an entry of m + 1 words": all its words
+abbrev pub keyWords : LweKeySwitchingParameters → ℕ
+keyWords P = nIn P * levelsIn P * (mIn P + 1)
 
--- the key alone, of `len` words: 1 to 6 and 9
-unfoldable pub keyRefusal : LweKeySwitchingParameters → Sizes → ℕ → ℕ
-keyRefusal P z len = firstOf (parameterRows P ++ row (lengthFails len (z .n * z .levels * (z .m + 1))) 9 ∷ [])
+-- a key of `len` words
+abbrev pub entryRows : LweKeySwitchingParameters → ℕ → List Check
+entryRows P len = parameterRows P ++ row (lengthFails len (keyWords P)) 9 ∷ []
 
 -- these papers leave open what a key that is refused, or one without such an entry, hands out: an empty part
 abbrev pub entryMissing : LweKeySwitchingParameters → ℕ → ℕ → ℕ → Bool
-entryMissing P len i j = not (eqb (keyRefusal P (sizesOf P) len) 0) || leb (P .«input_dimension» .0) i || leb (P .basis .«level_count» .0) j
+entryMissing P len i j = not (eqb (refusal (entryRows P len)) 0) || leb (nIn P) i || leb (levelsIn P) j
 
 -- "one entry is handed out as that part of the caller's key"
 abbrev pub entryAnswer : LweKeySwitchingParameters → List ℕ → ℕ → ℕ → List ℕ
-entryAnswer P key i j = pick (entryMissing P (length key) i j) [] (entryOf (P .basis .«level_count» .0) (P .«output_dimension» .0) key i j)
+entryAnswer P key i j = pick (entryMissing P (length key) i j) [] (entryOf (levelsIn P) (mIn P) key i j)
 
--- a key under the output key s′, from an input key of `len` numbers of which check 14 says `bad`, with limit E, into `room` words
-abbrev pub generateRows : Sizes → ℕ → ℕ → Bool → List ℕ → List ℕ → List ℤ → ℕ → List Check
-generateRows z E len bad s′ masks errors room =
-    row (lengthFails len (z .n)) 9
-    ∷ row (lengthFails (length s′) (z .m)) 9
-    ∷ row (lengthFails room (z .n * z .levels * (z .m + 1))) 11
-    ∷ row (lengthFails (length masks) (z .n * z .levels * z .m)) 12
-    ∷ row (lengthFails (length errors) (z .n * z .levels)) 12
-    ∷ row (boundFails (sizeOf (z .modulus)) E) 13
-    ∷ row bad 14
-    ∷ row (wordsFail (sizeOf (z .modulus)) s′) 14
-    ∷ row (wordsFail (sizeOf (z .modulus)) masks) 14
+-- a key from the secret `key` to the secret s′, with lent masks and errors within ±E, into `room` words
+abbrev pub generateRows : LweKeySwitchingParameters → ℕ → Key → List ℕ → List ℕ → List ℤ → ℕ → List Check
+generateRows P E key s′ masks errors room =
+    parameterRows P
+    ++ row (lengthFails (keyLength key) (nIn P)) 9
+    ∷ row (lengthFails (length s′) (mIn P)) 9
+    ∷ row (lengthFails room (keyWords P)) 11
+    ∷ row (lengthFails (length masks) (nIn P * levelsIn P * mIn P)) 12
+    ∷ row (lengthFails (length errors) (nIn P * levelsIn P)) 12
+    ∷ row (boundFails (qIn P) E) 13
+    ∷ row (keyFails (qIn P) key) 14
+    ∷ row (wordsFail (qIn P) s′) 14
+    ∷ row (wordsFail (qIn P) masks) 14
     ∷ row (errorsFail E errors) 15
     ∷ []
 
-unfoldable pub generateRefusal : LweKeySwitchingParameters → ℕ → ℕ → Bool → List ℕ → List ℕ → List ℤ → ℕ → ℕ
-generateRefusal P E len bad s′ masks errors room = firstOf (parameterRows P ++ generateRows (sizesOf P) E len bad s′ masks errors room)
+-- "Entry (i, j) encrypts sᵢ × weight j under the output key. Masks and errors are lent in entry order"
+pub record Generates (P : LweKeySwitchingParameters) (E : ℕ) (key : Key) (s′ masks : List ℕ) (errors : List ℤ)
+    (before : List ℕ) (r : ℕ) (after : List ℕ) : Type 0 where
+  pub writes :
+      Writes (generateRows P E key s′ masks errors (length before))
+      (generated (basis (P .basis)) (nIn P) (mIn P) (secretOf key) (words s′) (signed errors) masks) before r after
 
--- what they leave, with the basis prepared and its weights as words
-pub record Generable (p : PreparedBasis) (e : LweEncryptionParameters) (weights : List ℕ) (n : ℕ) (s′ masks : List ℕ) (errors : List ℤ) (room : ℕ) : Type 0 where
+-- what writing the entries asks, with the basis prepared
+pub record Generable (P : LweKeySwitchingParameters) (p : PreparedBasis) (masks : List ℕ) (errors : List ℤ) (room : ℕ)
+    : Type 0 where
   pub ready : Ready p
-  pub same : e .modulus ≡ p .modulus
-  pub modulus : modulusFails (meant (p .modulus)) ≡ false
-  pub dimension : dimensionFails (e .dimension .0) ≡ false
-  pub narrow : e .dimension .0 ≤ 2048
-  pub weighted : (j : ℕ) → j < p .«level_count» → (j < 16) × (getD weights j 0 ≡ weight (basisIn p) j)
-  pub outputs : length s′ ≡ e .dimension .0
-  pub fits : room ≡ n * p .«level_count» * (e .dimension .0 + 1)
-  pub masked : length masks ≡ n * p .«level_count» * e .dimension .0
-  pub errored : length errors ≡ n * p .«level_count»
-  pub bounded : boundFails (sizeOf (p .modulus)) (e .bound) ≡ false
-  pub words : wordsFail (sizeOf (p .modulus)) s′ ≡ false
-  pub mask-words : wordsFail (sizeOf (p .modulus)) masks ≡ false
-  pub errors-within : errorsFail (e .bound) errors ≡ false
-
--- what the encryption of entry k asks
-pub record EntryReady (P : LweEncryptionParameters) (m k p : ℕ) (s′ masks : List ℕ) (errors : List ℤ) (room : ℕ) : Type 0 where
-  pub modulus : modulusFails (meant (P .modulus)) ≡ false
-  pub dimension : dimensionFails m ≡ false
-  pub narrow : m ≤ 2048
-  pub same : P .dimension .0 ≡ m
-  pub outputs : length s′ ≡ m
-  pub fits : k * (m + 1) + (m + 1) ≤ room
-  pub masked : k * m + m ≤ length masks
-  pub errored : k < length errors
-  pub bounded : boundFails (sizeOf (P .modulus)) (P .bound) ≡ false
-  pub words : wordsFail (sizeOf (P .modulus)) s′ ≡ false
-  pub mask-words : wordsFail (sizeOf (P .modulus)) masks ≡ false
-  pub plaintext : p < sizeOf (P .modulus)
-  pub errors-within : errorsFail (P .bound) errors ≡ false
+  pub made : p ≡ preparedBy (P .basis)
+  pub fits : room ≡ keyWords P
+  pub masked : length masks ≡ nIn P * levelsIn P * mIn P
+  pub errored : length errors ≡ nIn P * levelsIn P

@@ -1,4 +1,3 @@
-use mathlib.Core.Path.{sym}
 use borrow.Author.Needs.{needs}
 use Rattle.key_switch_native.proofs.Rows.{less-none, less-as}
 use Rattle.key_switch_native.proofs.accumulate_entry.Statement.{statement}

@@ -1,43 +1,30 @@
-use mathlib.Core.Path.{refl, ap, _∙_}
-use mathlib.Core.List.{_++_}
-use Rattle.scheme.specs.Checks.{firstOf}
-use Rattle.checks.proofs.Table.{after, _▹_, first}
-use Rattle.key_switch_key.specs.Answers.{parameterRows, generateRows, generateRefusal}
+use mathlib.Core.List.{List}
+use borrow.Author.Needs.{needs}
+use Rattle.scheme.specs.Checks.{Check}
+use Rattle.scheme.proofs.Order.{Sized, early, late}
+use Rattle.primus_lwe.specs.Key.{keyOf}
+use Rattle.key_switch_key.specs.Answers.{generateRows}
 use Rattle.key_switch_key.proofs.key.generate_refusal.Statement.{statement}
 use Rattle.key_switch_key.proofs.key.generate_refusal.Tie as tie
 
+abbrev rows : tie.After-first → List Check
+rows c =
+    let a = c .before .before .before .before .before .before .before .before .before .args in
+    generateRows (a .params) (a .error-limit) (keyOf (a .form) (a .words .now) (a .signed .now)) (a .output-key .now) (a .masks .now) (a .errors .now) (a .room)
+
+sized : (c : tie.After-first) → Sized (rows c) (c .first .result)
+sized c = c .first .ensures (rows c) (record { basis = search needs; parameters = search needs; lengths = search needs })
+
 returns : tie.Need-returns
-unfolding generateRefusal
-returns c =
-    let r9 = c .before .before in
-    let r8 = r9 .before .before in
-    let r7 = r8 .before .before in
-    let r6 = r7 .before in
-    let r5 = r6 .before .before in
-    let r4 = r5 .before .before in
-    let r3 = r4 .before .before in
-    let r2 = r3 .before .before in
-    let r1 = r2 .before .before in
-    let b = r1 .before .before in
-    let z = b .before in
-    let a = z .before .before .before .args in
-    first (parameterRows (a .params) ++ generateRows (z .sizes .result) (a .bound) (a .key-len) (a .key-refused) (a .output-key .now) (a .masks .now) (a .errors .now) (a .room)) tt
-    (after (parameterRows (a .params)) tt (b .refusal .ensures)
-    ▹ (r1 .refuse .ensures, r1 .before .length-differs .ensures)
-    ▹ (r2 .refuse2 .ensures, r2 .before .length-differs2 .ensures)
-    ▹ (r3 .refuse3 .ensures, r3 .before .key-differs .ensures)
-    ▹ (r4 .refuse4 .ensures, r4 .before .masks-differ .ensures)
-    ▹ (r5 .refuse5 .ensures, r5 .before .runs-differ .ensures)
-    ▹ (r6 .refuse6 .ensures, r6 .before .bound-refused .ensures)
-    ▹ (r7 .refuse7 .ensures, refl)
-    ▹ (r8 .refuse8 .ensures, r8 .before .words-refused .ensures)
-    ▹ (r9 .refuse9 .ensures, r9 .before .words-refused2 .ensures)
-    ▹ (c .refuse10 .ensures, c .before .errors-refused .ensures))
-    ∙ ap (λ z. firstOf (parameterRows (a .params) ++ generateRows z (a .bound) (a .key-len) (a .key-refused) (a .output-key .now) (a .masks .now) (a .errors .now) (a .room))) (z .sizes .ensures)
+returns c = early (rows (c .before)) (sized (c .before)) (c .if1 .taken)
+
+returns-2 : tie.Need-returns-2
+returns-2 c =
+    let e = c .before .before .before in
+    let r = rows (e .before) in
+    late r (sized (e .before)) (e .if1 .left) (c .first2 .ensures r (search needs))
 
 pub generate-refusal-spec : {M : Type 1} → statement M
 generate-refusal-spec =
     tie.close
-    (tie.spec (λ c κs. tt) (λ c κs. tt) (λ c κs. tt) (λ c κs. tt) (λ c κs. tt) (λ c κs. tt) (λ c κs. tt) (λ c κs. tt) (λ c κs. tt) (λ c κs. tt)
-    (λ c κs. tt) (λ c κs. tt) (λ c κs. tt) (λ c κs. tt) (λ c κs. tt) (λ c κs. tt) (λ c κs. tt) (λ c κs. tt) (λ c κs. tt) (λ c κs. tt)
-    (λ c κs. tt) returns)
+    (tie.spec (λ c κs. tt) (λ c κs. tt) (λ c κs. tt) (λ c κs. tt) (λ c κs. tt) (λ c κs. tt) returns (λ c κs. tt) (λ c κs. tt) (λ c κs. tt) returns-2)

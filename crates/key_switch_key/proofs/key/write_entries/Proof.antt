@@ -1,84 +1,73 @@
-use Prim.Native.Nat.{_+_, _-_, _*_}
+use Prim.Native.Nat.{_-_}
 use native.Mathlib.Omega.{arith}
+use borrow.Author.Needs.{needs}
 use lib.ListN.{length}
-use Rattle.scheme.specs.Lwe.{words, signed}
-use Rattle.scheme.specs.Switch.{generatedEntry}
-use Rattle.scheme.proofs.Residue.{cong-refl}
-use Rattle.scheme.proofs.Rows.{Filling}
-use Rattle.primus_decompose.specs.Prepared.{basisIn}
-use Rattle.key_switch_key.proofs.Entries.{levels-some, generating-start, generating-end, place-in, level-in, entry-ready, generating-on}
+use Rattle.scheme.specs.Lwe.{words as wordsOf, secretOf}
+use Rattle.primus_lwe.specs.Key.{keyOf}
+use Rattle.key_switch_key.proofs.Entries.{Entering, Entered, entering, levels-some, level-in, row-asks, entered-start, entered-on, entered-end}
 use Rattle.key_switch_key.proofs.key.write_entries.Statement.{statement}
 use Rattle.key_switch_key.proofs.key.write_entries.Tie as tie
 
 abbrev Inv-loop : tie.InvT-loop
-Inv-loop out₀ input-key output-key masks errors p params weights modulus m k₀ out k =
-    Filling (generatedEntry (basisIn p) (params .dimension .0) (words input-key) (words output-key) (signed errors) masks) (params .dimension .0 + 1) (length input-key * p .«level_count») out₀ out k
+Inv-loop out₀ form words signed output-key masks errors p modulus m weights k₀ t18 out k = Entered p m (secretOf (keyOf form words signed)) (wordsOf output-key) errors masks out₀ out k
 
 abbrev μ-loop : tie.MeasureT-loop
-μ-loop out₀ input-key output-key masks errors p params weights modulus m k₀ out k = length errors - k
+μ-loop out₀ form words signed output-key masks errors p modulus m weights k₀ t18 out k = length errors - k
+
+abbrev start : tie.After-scalars Inv-loop μ-loop → tie.Start Inv-loop μ-loop
+start c = c .before .before .before .before .before .before
+
+asks : (c : tie.After-scalars Inv-loop μ-loop) → let a = start c .args in Entering (a .p) (c .scalars .result) (c .before .get .result) (a .masks .now) (a .errors .now) (length (a .out .now))
+asks c = entering (start c .pre) (c .before .get .ensures) (c .scalars .ensures)
 
 loop-holds : tie.Need-loop-holds Inv-loop μ-loop
-loop-holds c = let s = c .before .before .before .before .before .before in generating-start _ _ _ _ (words (s .args .input-key .now)) _ _ _ (s .args .out .now) (s .pre)
+loop-holds c =
+    let a = start c .args in
+    entered-start (secretOf (keyOf (a .form) (a .words .now) (a .signed .now))) (wordsOf (a .output-key .now)) (a .out .now) (asks c)
 
 div-i : tie.Need-div-i Inv-loop μ-loop
-div-i c =
-    let l = c .before .before in
-    let s = l .before .before .before .before .before .before .before in
-    omega (arith, levels-some _ _ _ _ (words (s .args .input-key .now)) _ _ _ (s .args .out .now) (s .pre))
+div-i c = omega (arith, levels-some (asks (c .before .before .before)))
 
 rem-j : tie.Need-rem-j Inv-loop μ-loop
-rem-j c =
-    let l = c .before .before .before in
-    let s = l .before .before .before .before .before .before .before in
-    omega (arith, levels-some _ _ _ _ (words (s .args .input-key .now)) _ _ _ (s .args .out .now) (s .pre))
+rem-j c = omega (arith, levels-some (asks (c .before .before .before .before)))
 
 mul-reduce-mul : tie.Need-mul-reduce-mul Inv-loop μ-loop
-mul-reduce-mul c =
-    let l = c .before .before .before in
-    let s = l .before .before .before .before .before .before .before in
-    omega (arith, place-in _ _ _ _ (words (s .args .input-key .now)) _ _ _ (s .args .out .now) (s .pre) _ _ (l .loop .inv) (c .before .before .loop-test .taken))
-
-shared-slice-read-reduce-mul : tie.Need-shared-slice-read-reduce-mul Inv-loop μ-loop
-shared-slice-read-reduce-mul c =
-    let l = c .before .before .before .before in
-    let s = l .before .before .before .before .before .before .before in
-    omega (arith, place-in _ _ _ _ (words (s .args .input-key .now)) _ _ _ (s .args .out .now) (s .pre) _ _ (l .loop .inv) (c .before .before .before .loop-test .taken))
-
-mul-reduce-mul-2 : tie.Need-mul-reduce-mul-2 Inv-loop μ-loop
-mul-reduce-mul-2 c =
-    let l = c .before .before .before .before in
-    let s = l .before .before .before .before .before .before .before in
-    omega (arith, level-in _ _ _ _ (words (s .args .input-key .now)) _ _ _ (s .args .out .now) (s .pre) _ _ (l .loop .inv) (c .before .before .before .loop-test .taken))
+mul-reduce-mul c = let l = c .before .before .before .before in omega (arith, level-in (asks (l .before)) (l .loop .k))
 
 array-read-reduce-mul : tie.Need-array-read-reduce-mul Inv-loop μ-loop
-array-read-reduce-mul c =
-    let l = c .before .before .before .before in
-    let s = l .before .before .before .before .before .before .before in
-    omega (arith, level-in _ _ _ _ (words (s .args .input-key .now)) _ _ _ (s .args .out .now) (s .pre) _ _ (l .loop .inv) (c .before .before .before .loop-test .taken))
+array-read-reduce-mul c = let l = c .before .before .before .before in omega (arith, level-in (asks (l .before)) (l .loop .k))
 
-write-entry-requires : tie.Need-write-entry-requires Inv-loop μ-loop
-write-entry-requires c κs =
-    let l = c .before .before .before .before .before .before in
-    let s = l .before .before .before .before .before .before .before in
-    entry-ready _ _ _ _ (words (s .args .input-key .now)) _ _ _ (s .args .out .now) (s .pre) _ _ (l .loop .inv) (c .before .before .before .before .before .loop-test .taken) _ (l .before .get .ensures) _ _ (c .before .reduce-mul .ensures)
+encrypt-row-requires : tie.Need-encrypt-row-requires Inv-loop μ-loop
+encrypt-row-requires c κs =
+    let t = c .before .before .before .before .before .before in
+    let l = t .before in
+    let a = start (l .before) .args in
+    row-asks (asks (l .before)) (secretOf (keyOf (a .form) (a .words .now) (a .signed .now))) (wordsOf (a .output-key .now)) (l .loop .inv) (t .loop-test .taken)
+
+add-k : tie.Need-add-k Inv-loop μ-loop
+add-k c =
+    let t = c .before .before .before .before .before .before .before .before .before in
+    omega (arith, t .loop-test .taken, start (t .before .before) .good .1 .1 .1 .1 .1 .1 .1 .0 .0)
 
 loop-again : tie.Need-loop-again Inv-loop μ-loop
 loop-again c =
-    let l = c .before .before .before .before .before .before .before .before .before in
-    let s = l .before .before .before .before .before .before .before in
-    generating-on _ _ _ _ (words (s .args .input-key .now)) _ _ _ (s .args .out .now) (s .pre) _ _ (l .loop .inv) (c .before .before .before .before .before .before .before .before .loop-test .taken) _ (l .before .get .ensures) _ _ (c .before .before .before .before .reduce-mul .ensures)
-    (cong-refl _ _) _ (c .before .before .write-entry .ensures)
-
-same-length : tie.Need-same-length Inv-loop μ-loop
-same-length c = c .before .loop .inv .same
+    let w = c .before .before in
+    let r = w .before .before .before in
+    let t = r .before .before .before .before in
+    let l = t .before in
+    let a = start (l .before) .args in
+    entered-on (asks (l .before)) (secretOf (keyOf (a .form) (a .words .now) (a .signed .now))) (wordsOf (a .output-key .now)) (l .loop .inv) (t .loop-test .taken)
+    (r .before .key-residue .ensures) (r .reduce-mul .ensures) (w .encrypt-row .ensures)
 
 returns : tie.Need-returns Inv-loop μ-loop
 returns c =
     let l = c .before in
-    let s = l .before .before .before .before .before .before .before in
-    generating-end _ _ _ _ (words (s .args .input-key .now)) _ _ _ (s .args .out .now) (s .pre) _ _ (l .loop .inv) (c .loop-test .left)
+    let b = l .before in
+    let a = start b .args in
+    entered-end (start b .pre) (b .before .get .ensures) (secretOf (keyOf (a .form) (a .words .now) (a .signed .now))) (wordsOf (a .output-key .now)) (l .loop .inv) (c .loop-test .left)
 
 pub write-entries-spec : {M : Type 1} → statement M
 write-entries-spec =
     tie.close
-    (tie.spec Inv-loop μ-loop (λ c κs. tt) loop-holds div-i rem-j mul-reduce-mul shared-slice-read-reduce-mul mul-reduce-mul-2 array-read-reduce-mul (λ c κs. tt) write-entry-requires (λ c. omega arith) (λ c. omega arith) loop-again same-length returns)
+    (tie.spec Inv-loop μ-loop (λ c κs. tt) (λ c κs. tt) loop-holds div-i rem-j (λ c κs. tt) mul-reduce-mul array-read-reduce-mul (λ c κs. tt) (λ c. search needs) encrypt-row-requires
+    add-k (λ c. omega arith) loop-again (λ c. c .before .loop .inv .same) returns)

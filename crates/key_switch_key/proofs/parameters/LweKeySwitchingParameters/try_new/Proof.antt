@@ -1,5 +1,5 @@
 use mathlib.Core.Path.{refl, sym, _∙_}
-use Rattle.checks.proofs.Table.{told, given}
+use Rattle.scheme.proofs.Order.{told, given}
 use Rattle.key_switch_key.specs.declared.parameters.LweKeySwitchingParametersAnswer.the-variants.{Refused}
 use Rattle.key_switch_key.proofs.parameters.LweKeySwitchingParameters.try_new.Statement.{statement}
 use Rattle.key_switch_key.proofs.parameters.LweKeySwitchingParameters.try_new.Tie as tie

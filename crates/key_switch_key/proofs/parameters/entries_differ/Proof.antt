@@ -1,8 +1,8 @@
 use mathlib.Core.Path.{sym, _∙_}
 use Prim.Native.Nat.{_*_}
 use Rattle.checks.proofs.Laws.{rows-cut, rows-whole}
-use Rattle.key_switch_key.proofs.parameters.key_differs.Statement.{statement}
-use Rattle.key_switch_key.proofs.parameters.key_differs.Tie as tie
+use Rattle.key_switch_key.proofs.parameters.entries_differ.Statement.{statement}
+use Rattle.key_switch_key.proofs.parameters.entries_differ.Tie as tie
 
 returns : tie.Need-returns
 returns c =
@@ -17,5 +17,5 @@ returns-2 c =
     let a = d .before .args in
     c .runs-differ .ensures ∙ rows-whole (a .len) (a .n * a .levels) (a .m) _ (sym (d .batch-differs .ensures) ∙ k .before .if1 .left) (k .batch-count .ensures)
 
-pub key-differs-spec : {M : Type 1} → statement M
-key-differs-spec = tie.close (tie.spec (λ c κs. tt) returns (λ c κs. tt) (λ c κs. tt) returns-2)
+pub entries-differ-spec : {M : Type 1} → statement M
+entries-differ-spec = tie.close (tie.spec (λ c κs. tt) returns (λ c κs. tt) (λ c κs. tt) returns-2)
