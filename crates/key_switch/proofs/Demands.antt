@@ -26,7 +26,7 @@ use Rattle.scheme.proofs.Same.{demand-3}
 use Rattle.primus_reduce.specs.Ring.{meant}
 use Rattle.checks.proofs.Laws.{words-below}
 use Rattle.primus_decompose.specs.Answers.{basis}
-use Rattle.primus_decompose.proofs.Answers.{sound-basis}
+use Rattle.gadget_constants.proofs.Sound.{sound-basis}
 use Rattle.key_switch_key.specs.declared.parameters.LweKeySwitchingParameters.{LweKeySwitchingParameters}
 use Rattle.key_switch_key.specs.Answers.{qIn, nIn, mIn, levelsIn, keyWords, parameterRows}
 use Rattle.key_switch_key.proofs.Passed.{judged}

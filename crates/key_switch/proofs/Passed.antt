@@ -51,6 +51,9 @@ module _ (P : LweKeySwitchingParameters) (key input : List ℕ) (room : ℕ) whe
       let no = passed (batchRows P key input room) e in
       switchable _ _ _ e (batch-whole (length input) (nIn P) (no 10 tt)) (length-ok _ _ (no 11 tt))
 
+  pub rows-passed : {count : ℕ} → count ≡ length input / (nIn P + 1) → refusal (batchRows P key input room) ≡ 0 → Switchable P key input count room
+  rows-passed c e = subst (λ n. Switchable P key input n room) (sym c) (batch-passed e)
+
   pub one-passed : refusal (switchRows P key input room) ≡ 0 → (length input ≡ nIn P + 1) × Switchable P key input 1 room
   one-passed e =
       let no = passed (switchRows P key input room) e in

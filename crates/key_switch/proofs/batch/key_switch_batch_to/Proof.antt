@@ -8,7 +8,7 @@ use Rattle.scheme.proofs.Order.{refused, done}
 use Rattle.primus_decompose.specs.Answers.{basis}
 use Rattle.key_switch_key.specs.Answers.{nIn, mIn}
 use Rattle.key_switch.specs.Answers.{batchRows}
-use Rattle.key_switch.proofs.Passed.{batch-number, batch-passed}
+use Rattle.key_switch.proofs.Passed.{batch-number, rows-passed}
 use Rattle.key_switch.proofs.batch.key_switch_batch_to.Statement.{statement}
 use Rattle.key_switch.proofs.batch.key_switch_batch_to.Tie as tie
 
@@ -40,7 +40,7 @@ switch-judged-requires c κs =
     let e = c .before in
     let k = e .before .before .before .before in
     let a = start k .args in
-    rw (count-is k) (batch-passed (a .params) (a .key .now) (a .input .now) _ (none e))
+    rows-passed (a .params) (a .key .now) (a .input .now) _ (count-is k) (none e)
 
 returns-2 : tie.Need-returns-2
 returns-2 c =
