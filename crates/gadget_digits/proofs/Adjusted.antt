@@ -14,7 +14,7 @@ use Rattle.scheme.specs.Basis.{Basis, Accepted, base, half, dropped, boundOf, b
 use Rattle.scheme.specs.Reading.{threshold, lift, rounded, reading, rounding}
 use Rattle.gadget_digits.specs.Walk.{adjusted, carryIn}
 use Rattle.scheme.proofs.Integers.{_⊖_, ⊖-eq, ⊖-inj, diff, diffs₁, diffs₂, diffs₃}
-use Rattle.scheme.proofs.Residue.{div-mod, residue-is, floorDiv-is, cong-refl, word-residue}
+use Rattle.scheme.proofs.Residue.{div-mod, residue-is, floorDiv-is, cong-refl}
 use Rattle.scheme.proofs.Balanced.{low-is, next-is, low-next, low-balanced, balanced-from}
 use Rattle.scheme.proofs.Reading.{even, half-pos, all-bits}
 
@@ -72,16 +72,6 @@ module _ (B h : ℕ) (even : B ≡ h + h) (positive : 0 < h) where
     where
       above : (s k : ℤ) (p : ℕ) → s +ℤ pos (p * B) *ℤ k ≡ s +ℤ pos B *ℤ (pos p *ℤ k)
       above = diffs₂ _ λ a b c d p. simp diff (⊖-eq _ _ _ _ (omega arith))
-
--- a digit as it is stored: from −B/2 … B/2 − 1 to a word below q
-pub stored-small : (q t : ℕ) → t < q → residue (pos t) q ≡ t
-stored-small q t k = word-residue q t k
-
-pub stored-negative : (q B t : ℕ) → B ≤ q → t < B → residue (t ⊖ B) q ≡ t + (q - B)
-stored-negative q B t h k = residue-is (t ⊖ B) (negsuc 0) q (t + (q - B)) (omega arith) (simp diff (⊖-eq _ _ _ _ (omega arith)))
-
-pub stored-zero : (q B : ℕ) → 0 < q → residue (B ⊖ B) q ≡ 0
-stored-zero q B h = residue-is (B ⊖ B) (pos 0) q 0 h (simp diff (⊖-eq _ _ _ _ (omega arith)))
 
 -- the carry into the lowest level is the highest dropped bit
 pub first-carry : (d v : ℕ) → (v + 2 ^ d) / 2 ^ suc d ≡ v / 2 ^ suc d + v / 2 ^ d % 2

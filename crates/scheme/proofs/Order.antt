@@ -163,24 +163,6 @@ writes-by {rows = rows} {before = before} f w = record { answered = w .answered;
 
 -- ---- rows joined
 
--- no row has this number
-abbrev pub away : ℕ → List Check → Bool
-away k [] = true
-away k (c ∷ cs) = not (eqb (c .number) k) && away k cs
-
--- rows of other numbers change nothing
-pub applies-away : (rows more : List Check) (k : ℕ) → T (away k more) → applies (rows ++ more) k ≡ applies rows k
-applies-away [] [] k t = refl
-applies-away [] (d ∷ ds) k t =
-    let y = and-yes (not (eqb (d .number) k)) (away k ds) t in
-    go (eqb (d .number) k) (y .0) (applies-away [] ds k (y .1))
-  where
-    go : (b : Bool) → T (not b) → applies ds k ≡ false → pick b (applies ds k || d .fails) (applies ds k) ≡ false
-    go true t e = absurd t
-    go false t e = e
-applies-away (c ∷ cs) more k t =
-    ap (λ b. pick (eqb (c .number) k) (b || c .fails) b) (applies-away cs more k t)
-
 applies-part : (rows more : List Check) (k : ℕ) → applies (rows ++ more) k ≡ false → applies rows k ≡ false
 applies-part [] more k e = refl
 applies-part (c ∷ cs) more k e = go (eqb (c .number) k) e (applies-part cs more k)
