@@ -1,5 +1,5 @@
-// Compares the codec with data/codec.bin, which scripts/codec_vectors.py makes from document 01 and describes, and with
-// data/oracle.bin, which holds what the Rust answered (oracle/sample.py).
+// Compares the codec with data/codec.bin, which scripts/codec_vectors.py makes from document 01 and describes, and
+// with data/oracle.bin, which holds what the Rust answered (oracle/sample.py).
 mod bytes;
 mod slices;
 mod values;

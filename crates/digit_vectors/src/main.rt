@@ -1,5 +1,5 @@
-// Compares the library's answers with data/digits.bin, which scripts/digits_vectors.py makes from document 01 alone, and with
-// data/oracle.bin, which holds what the Rust answered (oracle/sample.py).
+// Compares the library's answers with data/digits.bin, which scripts/digits_vectors.py makes from document 01 alone, and
+// with data/oracle.bin, which holds what the Rust answered (oracle/sample.py).
 mod basis;
 mod bytes;
 mod word;

@@ -1,4 +1,4 @@
-// Little-endian numbers in a run of bytes, as the program's operands and the stored files have them. Past the end every byte is 0.
+// Little-endian numbers in a run of bytes, as operands and stored files have them. Past the end every byte is 0.
 ghost use mathlib.Core.Path.{_≡_};
 ghost use Prim.Native.Nat.{_<_};
 ghost use lib.ListN.{getD};

@@ -1,4 +1,4 @@
-// Compares the calls with data/lwe.bin and data/switch.bin, which scripts/lwe_vectors.py and scripts/switch_vectors.py make from
+// Compares the calls with data/lwe.bin and data/switch.bin, which scripts/lwe_vectors.py and switch_vectors.py make from
 // document 01 and describe, and with data/oracle.bin, which holds what the Rust answered (oracle/sample.py).
 mod lattice;
 mod packed;

@@ -1,4 +1,4 @@
-// One ciphertext: under a secret key kinds 8 to 15, those of odd numbers under a signed key; public keys kinds 23 to 26.
+// One ciphertext: kinds 8 to 15 under a secret key, the odd ones under a signed one; kinds 23 to 26 with a public key.
 use crate::parameters;
 use crate::record::Head;
 use crate::said;
@@ -13,8 +13,8 @@ fn word(answer: WordAnswer) -> Said {
     }
 }
 
-// Under words a or signed numbers d: mask b, errors e, the plaintext or the message, the ciphertext in out. A public key from a
-// secret: masks b, errors e. Under the public key a: errors e, coefficients d.
+// Under words a or signed numbers d: mask b, errors e, the plaintext or the message, the ciphertext in out. A public key
+// from a secret: masks b, errors e. Under the public key a: errors e, coefficients d.
 pub(crate) fn encrypt(h: Head, a: &[u32], b: &[u32], d: &[i32], e: &[i32], out: &mut [u32]) -> u32 {
     let p = parameters::encryption(h);
     let params = parameters::message(h);

@@ -1,4 +1,4 @@
-// Key switching: kinds 27 to 32, of data/switch.bin. The basis is judged before the call, the dimensions by it.
+// Key switching: kinds 27 to 32. The basis is judged before the call, the dimensions by it.
 use crate::record::Head;
 use crate::said;
 use crate::said::Said;
@@ -45,7 +45,7 @@ fn entry(params: LweKeySwitchingParameters, key: &[u32], i: u32, j: u32, out: &m
     0
 }
 
-// A key: secret a or d, output secret c, masks b, errors e. A switch: the key a, the input b. An entry: the key a, place, level.
+// A key: secret a or d, output secret c, masks b, errors e. A switch: key a, input b. An entry: key a, place, level.
 fn call(
     h: Head,
     params: LweKeySwitchingParameters,

@@ -66,6 +66,12 @@ module _ (q x y : ℕ) (b : Bool) (e : b ≡ leb q x) (f : x ≡ y) where
 
 -- ---- two tallies
 
+pub taken : {A : Type 0} (b : Bool) (x y : A) → b ≡ true → x ≡ pick b x y
+taken b x y e = rw e
+
+pub left : {A : Type 0} (b : Bool) (x y : A) → b ≡ false → y ≡ pick b x y
+left b x y e = rw e
+
 -- the tag of a sum judges 17 alone
 tag-told : (x y : Tally) → tagAnswer x y ≡ pick (sumFails x y) (Refused 17) (Tag (record { tally = sumOf x y }))
 unfolding refusal firstIn
@@ -114,12 +120,6 @@ place-ok xs s i e h =
     not-true false e = refl
 
 -- ---- 19, then the order
-
-taken : {A : Type 0} (b : Bool) (x y : A) → b ≡ true → x ≡ pick b x y
-taken b x y e = rw e
-
-left : {A : Type 0} (b : Bool) (x y : A) → b ≡ false → y ≡ pick b x y
-left b x y e = rw e
 
 module _ (p : PoolParameters) (s xs ts : List ℕ) where
   abbrev rows : Head → List Check

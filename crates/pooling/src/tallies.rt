@@ -1,6 +1,7 @@
 // The tallies of a total: a number for each place, as `Tally::number` gives it.
 ghost use mathlib.Core.Path.{_≡_};
 ghost use mathlib.Core.Bool.{false};
+ghost use Rattle.scheme.specs.Numbers.{pick};
 ghost use Rattle.primus_lattice.specs.Answers.{tagAnswer};
 ghost use Rattle.pooling.specs.Total.{sumOf, sumFails, talliesFail, addTallies};
 use primus_lattice::LweTag;
@@ -24,9 +25,9 @@ fn sum_refused(x: Tally, y: Tally) -> bool
     }
 }
 
+// No tally where 17 applies.
 fn sum(x: Tally, y: Tally) -> Tally
-    requires { ⌜ sumFails x y ≡ false ⌝ }
-    ensures { λ r. ⌜ r ≡ sumOf x y ⌝ }
+    ensures { λ r. ⌜ r ≡ pick (sumFails x y) Tally.Absent (sumOf x y) ⌝ }
 {
     match added(x, y) {
         LweTagAnswer::Tag(t) => t.tally(),

@@ -65,7 +65,7 @@ fn with_secret(h: Head, secret: &[u32], sent: &[u32], words: usize) -> u32 {
     }
 }
 
-// A secret of words, of the modulus that the total was sent with: another one would open to another total, with no refusal.
+// Not a secret of words, or of another modulus than the total: it would open to another total, with no refusal.
 fn is_other(h: Head, modulus: Modulus) -> bool {
     let given = h.modulus;
     h.kind != 1 || given.number() != modulus.number()

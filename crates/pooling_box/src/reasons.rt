@@ -43,7 +43,7 @@ pub(crate) fn refused(number: u32) {
     programs::write(b"\n");
 }
 
-// A file, and what became of it.
+// A name, and what became of it.
 pub(crate) fn told(name: &[u8], number: u32) {
     programs::write(name);
     programs::write(b": ");
@@ -54,7 +54,7 @@ pub(crate) fn told(name: &[u8], number: u32) {
     refused(number);
 }
 
-// The same of a file. A whole one that is refused by 19 is of another kind, or made with another q or t.
+// What became of a file: a whole one that is refused by 19 is of another kind, or made with another q or t.
 pub(crate) fn told_file(name: &[u8], number: u32, whole: bool) {
     if number != 19 || !whole {
         told(name, number);

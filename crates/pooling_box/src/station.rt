@@ -1,4 +1,4 @@
-// The box: it adds the shops' rows and switches the total. It holds the switching key and the files that came in, and no secret.
+// The box: it adds the shops' rows and switches the total. It holds the switching key and what came in, and no secret.
 use crate::PLACES;
 use crate::PLAINTEXT_MODULUS;
 use crate::reasons;
@@ -130,7 +130,7 @@ fn width_of(dimension: usize) -> usize {
     PLACES * (dimension + 1)
 }
 
-// A total of four ciphertexts of n + 1 words is switched to four of m + 1. No whole file and no accepted dimension is larger than the rooms.
+// A total of four ciphertexts of n + 1 words is switched to four of m + 1. No whole file is larger than the rooms.
 fn with_key(
     h: Head,
     params: LweKeySwitchingParameters,

@@ -1,4 +1,4 @@
--- The layout of a saved file (docs/FILES.md): a head of 64 bytes, the words, and what is saved beside them. All numbers are
+-- The layout of a saved file (docs/FILES.md): a head of 64 bytes, the words, and what is saved beside them, all numbers
 -- little-endian.
 use mathlib.Core.Bool.{Bool, not, _||_}
 use mathlib.Core.List.{List, [], _∷_}
@@ -82,7 +82,7 @@ sizeFor w c b = 64 + 4 * w + pick (eqb b 1) (8 * c) 0
 abbrev pub sizeFails : ℕ → ℕ → ℕ → ℕ → Bool
 sizeFails len w c b = not (eqb len (sizeFor w c b))
 
--- 19: bytes that are no whole file of this layout. It is no number of the order: where it applies there is nothing to judge.
+-- 19: bytes that are no whole file of this layout. It is not in the order: where it applies there is nothing to judge.
 abbrev pub fileRows : List ℕ → List Check
 fileRows s =
     row (ltb (length s) 64) 19

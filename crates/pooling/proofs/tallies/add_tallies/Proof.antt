@@ -1,13 +1,14 @@
 use mathlib.Core.Path.{_≡_, sym, ap, ap₂, _∙_}
-use mathlib.Core.Bool.{false}
 use Prim.Native.Nat.{_-_}
 use native.Mathlib.Omega.{arith}
 use lib.ListN.{length, getD}
 use Rattle.scheme.proofs.InPlace.{Filled, filled-start, filled-word, filled-next, filled-end}
 use Rattle.scheme.proofs.Lists.{length-tabulate, getD-tabulate}
+use Rattle.scheme.specs.Numbers.{pick}
+use Rattle.primus_lattice.specs.declared.tag.Tally.the-variants.{Absent}
 use Rattle.primus_lattice.specs.Answers.{tallyFor, numberOfTally}
-use Rattle.pooling.specs.Total.{sumOf, placeSum, addTallies}
-use Rattle.pooling.proofs.Laws.{fails-is, place-ok}
+use Rattle.pooling.specs.Total.{sumOf, sumFails, placeSum, addTallies}
+use Rattle.pooling.proofs.Laws.{left, place-ok}
 use Rattle.pooling.proofs.tallies.add_tallies.Statement.{statement}
 use Rattle.pooling.proofs.tallies.add_tallies.Tie as tie
 
@@ -27,26 +28,22 @@ held c =
     let l = c .before .before .before .before in
     c .before .from-number .ensures ∙ ap tallyFor (filled-word _ _ _ _ (l .loop .inv) (omega arith))
 
-sum-requires : tie.Need-sum-requires Inv-loop μ-loop
-sum-requires c κs =
-    let l = c .before .before .before .before in
-    let s = l .before .before .before in
-    sym (fails-is _ _ _ _ false (sym (place-ok (s .args .tallies .now) (s .args .bytes .now) (l .loop .i) (s .pre) (omega arith))) (sym (held c)) (sym (c .tally-at .ensures)))
-
 loop-again : tie.Need-loop-again Inv-loop μ-loop
 loop-again c =
     let m = c .before in
     let t = m .before in
     let l = t .before .before .before .before in
-    let a = l .before .before .before .args in
+    let s = l .before .before .before in
+    let a = s .args in
     filled-next _ _ _ _ (l .loop .inv) _ (omega arith)
     (c .number .ensures
-    ∙ ap numberOfTally (m .sum .ensures ∙ ap₂ sumOf (held t) (t .tally-at .ensures))
+    ∙ ap numberOfTally (m .sum .ensures ∙ ap₂ (λ x y. pick (sumFails x y) Absent (sumOf x y)) (held t) (t .tally-at .ensures))
+    ∙ ap numberOfTally (sym (left _ _ _ (place-ok (a .tallies .now) (a .bytes .now) (l .loop .i) (s .pre) (omega arith))))
     ∙ sym (getD-tabulate (length (a .tallies .now)) (placeSum (a .tallies .now) (a .bytes .now)) (l .loop .i) (omega arith)))
 
 pub add-tallies-spec : {M : Type 1} → statement M
 add-tallies-spec =
     tie.close
-    (tie.spec Inv-loop μ-loop loop-holds (λ c. omega arith) (λ c. omega arith) (λ c κs. tt) (λ c κs. tt) sum-requires (λ c κs. tt) (λ c. omega arith)
+    (tie.spec Inv-loop μ-loop loop-holds (λ c. omega arith) (λ c. omega arith) (λ c κs. tt) (λ c κs. tt) (λ c κs. tt) (λ c κs. tt) (λ c. omega arith)
     (λ c. omega arith) (λ c. omega arith) (λ c. omega arith) loop-again
     (λ c. c .before .loop .inv .same) (λ c. filled-end _ _ _ _ (c .before .loop .inv) (omega arith)))
