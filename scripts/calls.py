@@ -4,7 +4,8 @@
 A table of CALLS.md stands under a heading `## CRATE: ..`, a row a call: names | operands | numbers | promise. Checked:
 - each public function of the crate is named in one row, and each name of a row is a public function of the crate;
 - the first name of the promise column stands in the contract of each call of the row;
-- the numbers are those of the rows (`row .. N`) that the promise's definition reaches in specs/, in the order of scheme/specs/Checks.
+- the numbers are those of the rows (`row .. N`) that the promise's definition reaches in specs/, in the order of scheme/specs/Checks
+  (18 and 19, the programs' own, stand before it). A definition that says only that a number applies lists none.
 """
 import re
 import sys
@@ -81,7 +82,7 @@ def numbers_of(crate, name, specs, seen):
     text = found[name]
     numbers = row_numbers(text)
     for other in set(NAME.findall(text)):
-        if other != name and re.search(r'(Rows|Answer|^rows|^tried)$', other):
+        if other != name and re.search(r'(Rows|Refusal|Answer|^rows|^tried)$', other):
             numbers |= numbers_of(crate, other, specs, seen)
     return numbers
 
@@ -132,7 +133,7 @@ def main():
             if promise.group(1) not in NAME.findall(contract):
                 faults.append('%s: its contract does not name `%s`' % (where, promise.group(1)))
             home = names.get(promise.group(1), crate)
-            want = sorted(numbers_of(home, promise.group(1), specs, set()), key=order.index)
+            want = sorted(numbers_of(home, promise.group(1), specs, set()), key=lambda n: order.index(n) if n in order else -1)
             if listed(cells[2]) != want:
                 faults.append('%s: refuses by %s, and by CALLS.md %s' % (where, want, listed(cells[2])))
     for crate in code:
