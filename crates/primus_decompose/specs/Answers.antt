@@ -56,9 +56,6 @@ tried b = pick (eqb (refusal (rows b)) 0) (A.Accepted b) (A.Refused (refusal (ro
 abbrev pub basisAnswer : Modulus → DecompositionBaseLog → RetainedLevels → ApproxSignedBasisAnswer
 basisAnswer m b l = tried (basisFrom m b l)
 
-abbrev pub made : Modulus → ℕ → RetainedLevels → ApproxSignedBasisAnswer
-made m b l = basisAnswer m (record { 0 = b }) l
-
 -- B as a word
 abbrev pub baseWord : ApproxSignedBasis → ℕ
 baseWord b = 2 ^ b .«log_basis» .0 % 2 ^ 32

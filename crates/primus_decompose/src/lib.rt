@@ -1,6 +1,5 @@
 // Approximate signed decomposition: the gadget basis, readings and digits, for words of 32 bits.
 mod error;
-mod numbers;
 mod parameters;
 mod primitive;
 
@@ -18,7 +17,5 @@ pub use gadget_parameters::DecompositionBaseLog;
 pub use gadget_parameters::DecompositionBaseLogAnswer;
 pub use gadget_parameters::DecompositionLevelCount;
 pub use gadget_parameters::RetainedLevels;
-pub use numbers::basis_for;
-pub use numbers::levels_for;
 pub use parameters::DecompositionConfig;
 pub use primitive::ApproxSignedBasis;

@@ -16,7 +16,7 @@ pub enum LweDimensionAnswer {
 }
 
 // 6: outside the limits of the kind.
-pub fn dimension_refused(dimension: usize) -> bool
+fn dimension_refused(dimension: usize) -> bool
     ensures { λ r. ⌜ r ≡ dimensionFails dimension ⌝ }
 {
     dimension < LweDimension::MIN || LweDimension::MAX < dimension

@@ -6,7 +6,6 @@ mod tag;
 
 pub use dimension::LweDimension;
 pub use dimension::LweDimensionAnswer;
-pub use dimension::dimension_refused;
 pub use multiple_message::extract_lwe_at;
 pub use multiple_message::packed_refused;
 pub use single_message::add_assign;
