@@ -1,5 +1,6 @@
-/* Where the time of a batch switch goes, through the C calls: the checks alone (the same call with an output one word short is
- * refused by 11 after every check), the digits of the same mask words alone, and the rest. Processor time, the least of several runs. */
+/* Where the time of a batch switch goes, through the C calls: the checks alone (the same call with a last word that is not below q is
+ * refused by 14 after every check; natively every word is, and an output one word short is refused by 11), the digits of the same
+ * mask words alone, and the rest. Processor time, the least of several runs. */
 #include <stdio.h>
 #include <stdlib.h>
 #include <time.h>
@@ -50,8 +51,14 @@ static uint32_t whole(struct job *j)
 
 static uint32_t checks(struct job *j)
 {
-    return saigagalena_key_switch_batch(j->modulus, BASE_LOG, 0, j->n, j->m, j->key, j->key_len, j->input, j->input_len, j->out,
-                                        j->out_len - 1);
+    uint32_t *last = &j->input[j->input_len - 1], good = *last;
+    size_t shorter = j->modulus ? 0 : 1;
+
+    *last = UINT32_MAX;
+    uint32_t answer = saigagalena_key_switch_batch(j->modulus, BASE_LOG, 0, j->n, j->m, j->key, j->key_len, j->input, j->input_len,
+                                                   j->out, j->out_len - shorter);
+    *last = good;
+    return answer;
 }
 
 static uint32_t digits(struct job *j)
@@ -96,7 +103,8 @@ static struct job prepared(uint32_t modulus, size_t n, size_t m)
 static void report(uint32_t modulus, size_t n, size_t m)
 {
     struct job j = prepared(modulus, n, m);
-    double all = least(whole, &j, 0), judged = least(checks, &j, SAIGAGALENA_OUTPUT_LENGTH), read = least(digits, &j, 0);
+    uint32_t refusal = modulus ? SAIGAGALENA_WORD_NOT_BELOW_Q : SAIGAGALENA_OUTPUT_LENGTH;
+    double all = least(whole, &j, 0), judged = least(checks, &j, refusal), read = least(digits, &j, 0);
     printf("| %10lu | %4zu / %4zu | %7.1f ms | %4.1f %% | %4.1f %% | %4.1f %% |\n", (unsigned long)modulus, n, m, 1e3 * all,
            100 * judged / all, 100 * read / all, 100 * (all - judged - read) / all);
     free(j.key);

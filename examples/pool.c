@@ -73,9 +73,9 @@ static const char *meaning(uint32_t number)
     case SAIGAGALENA_INPUT_LENGTH: return "a ciphertext has the wrong length";
     case SAIGAGALENA_OUTPUT_LENGTH: return "an output has the wrong length";
     case SAIGAGALENA_LENT_LENGTH: return "masks, errors or coefficients have the wrong length";
-    case SAIGAGALENA_BOUND: return "the error bound is too large";
+    case SAIGAGALENA_ERROR_LIMIT: return "the error limit is too large";
     case SAIGAGALENA_WORD_NOT_BELOW_Q: return "a word is not below the modulus";
-    case SAIGAGALENA_ERROR_OUTSIDE: return "an error is outside its bound";
+    case SAIGAGALENA_ERROR_OUTSIDE: return "an error is outside its limit";
     case SAIGAGALENA_MESSAGE_NOT_BELOW_T: return "a message is not below the plaintext modulus";
     case SAIGAGALENA_TALLY: return "a tally exceeds 2^32";
     default: return "no refusal number";

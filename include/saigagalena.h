@@ -6,7 +6,7 @@
  *   modulus      the ciphertext modulus q; 0 stands for the native modulus 2^32
  *   n, m         dimensions, from 1 to 2048; a ciphertext has n mask words, then the body
  *   t            the plaintext modulus, from 2 to 65536
- *   bound        E: lent errors lie within -E .. E
+ *   error_limit  E: lent errors lie within -E .. E
  *   base_log     log2 of the base B of the digits, from 2 to 31
  *   levels       L; 0 stands for as many as fit
  *   centered     0 encodes a message m as m; any other number as m - t from ceil(t/2) on
@@ -14,7 +14,7 @@
  *
  * A call that writes returns 0, or the first refusal number that applies; refused, it has written nothing. A call that
  * answers one number returns it as 64 bits, or SAIGAGALENA_REFUSED plus the first refusal number that applies.
- * Every length and every number is judged. What no number can say is the caller's to see to: each pointer is aligned for its
+ * Every length and every number is judged, and before a slice is read: a call that is refused by 1 to 13 has not touched one. What no number can say is the caller's to see to: each pointer is aligned for its
  * elements and good for its length, a buffer that is written overlaps no other, and no other thread writes a buffer during a call.
  * The library is for x86-64. Nothing is allocated or kept; the stack used stays below 256 KiB; calls from several threads are fine.
  * Running time depends on secrets in general: no promise is made about it.
@@ -44,7 +44,7 @@
 #define SAIGAGALENA_INPUT_LENGTH 10       /* ciphertexts of the wrong length, more than n packed messages, no such body */
 #define SAIGAGALENA_OUTPUT_LENGTH 11      /* an output has the wrong length */
 #define SAIGAGALENA_LENT_LENGTH 12        /* masks, errors or coefficients have the wrong length */
-#define SAIGAGALENA_BOUND 13              /* E is above 1048576, or not below the modulus */
+#define SAIGAGALENA_ERROR_LIMIT 13        /* E is above 1048576, or not below the modulus */
 #define SAIGAGALENA_WORD_NOT_BELOW_Q 14   /* a word, or a signed key number's magnitude, is not below q */
 #define SAIGAGALENA_ERROR_OUTSIDE 15      /* an error is outside -E .. E, or a coefficient none of -1, 0, 1 */
 #define SAIGAGALENA_MESSAGE_NOT_BELOW_T 16 /* a message is not below t */
@@ -84,83 +84,83 @@ uint32_t saigagalena_decode_slice(uint32_t modulus, uint32_t t, const uint32_t *
 
 /* out: the mask, then <mask, secret> + error + plaintext modulo q. The mask has n words, the errors one.
  * Refuse by 2, 6, 9, 11, 12, 13, 14, 15. */
-uint32_t saigagalena_encrypt_encoded(uint32_t modulus, size_t n, uint32_t bound, const uint32_t *secret, size_t secret_len,
+uint32_t saigagalena_encrypt_encoded(uint32_t modulus, size_t n, uint32_t error_limit, const uint32_t *secret, size_t secret_len,
                                      const uint32_t *mask, size_t mask_len, const int32_t *errors, size_t errors_len,
                                      uint32_t plaintext, uint32_t *out, size_t out_len);
-uint32_t saigagalena_encrypt_encoded_signed(uint32_t modulus, size_t n, uint32_t bound, const int32_t *secret, size_t secret_len,
+uint32_t saigagalena_encrypt_encoded_signed(uint32_t modulus, size_t n, uint32_t error_limit, const int32_t *secret, size_t secret_len,
                                             const uint32_t *mask, size_t mask_len, const int32_t *errors, size_t errors_len,
                                             uint32_t plaintext, uint32_t *out, size_t out_len);
 
 /* The same of an encoded message. A fresh ciphertext has the tally E. Refuse by 2, 6, 7, 8, 9, 11, 12, 13, 14, 15, 16. */
-uint32_t saigagalena_encrypt_message(uint32_t modulus, size_t n, uint32_t t, uint32_t bound, uint32_t centered,
+uint32_t saigagalena_encrypt_message(uint32_t modulus, size_t n, uint32_t t, uint32_t error_limit, uint32_t centered,
                                      const uint32_t *secret, size_t secret_len, const uint32_t *mask, size_t mask_len,
                                      const int32_t *errors, size_t errors_len, uint32_t message, uint32_t *out, size_t out_len);
-uint32_t saigagalena_encrypt_message_signed(uint32_t modulus, size_t n, uint32_t t, uint32_t bound, uint32_t centered,
+uint32_t saigagalena_encrypt_message_signed(uint32_t modulus, size_t n, uint32_t t, uint32_t error_limit, uint32_t centered,
                                             const int32_t *secret, size_t secret_len, const uint32_t *mask, size_t mask_len,
                                             const int32_t *errors, size_t errors_len, uint32_t message, uint32_t *out,
                                             size_t out_len);
 
 /* A ciphertext for each message: n mask words and an error for each, n + 1 output words. Refuses as encrypt_message. */
-uint32_t saigagalena_encrypt_message_batch(uint32_t modulus, size_t n, uint32_t t, uint32_t bound, uint32_t centered,
+uint32_t saigagalena_encrypt_message_batch(uint32_t modulus, size_t n, uint32_t t, uint32_t error_limit, uint32_t centered,
                                            const uint32_t *secret, size_t secret_len, const uint32_t *masks, size_t masks_len,
                                            const int32_t *errors, size_t errors_len, const uint32_t *messages,
                                            size_t messages_len, uint32_t *out, size_t out_len);
 
 /* Up to n plaintexts or messages under one mask: n mask words, then a body for each. No tally.
  * Refuse by 2, 6, 9, 10, 11, 12, 13, 14, 15, and for messages 7, 8, 16 too. */
-uint32_t saigagalena_encrypt_encoded_packed(uint32_t modulus, size_t n, uint32_t bound, const uint32_t *secret, size_t secret_len,
+uint32_t saigagalena_encrypt_encoded_packed(uint32_t modulus, size_t n, uint32_t error_limit, const uint32_t *secret, size_t secret_len,
                                             const uint32_t *mask, size_t mask_len, const int32_t *errors, size_t errors_len,
                                             const uint32_t *plaintexts, size_t plaintexts_len, uint32_t *out, size_t out_len);
-uint32_t saigagalena_encrypt_message_packed(uint32_t modulus, size_t n, uint32_t t, uint32_t bound, uint32_t centered,
+uint32_t saigagalena_encrypt_message_packed(uint32_t modulus, size_t n, uint32_t t, uint32_t error_limit, uint32_t centered,
                                             const uint32_t *secret, size_t secret_len, const uint32_t *mask, size_t mask_len,
                                             const int32_t *errors, size_t errors_len, const uint32_t *messages,
                                             size_t messages_len, uint32_t *out, size_t out_len);
 
 /* ---- opening */
 
-/* body - <mask, secret> modulo q. The phase, or a refusal by 2, 6, 9, 10, 13, 14. In these calls `bound` is only judged: 0 will do. */
-uint64_t saigagalena_decrypt_phase(uint32_t modulus, size_t n, uint32_t bound, const uint32_t *secret, size_t secret_len,
+/* body - <mask, secret> modulo q. The phase, or a refusal by 2, 6, 9, 10, 13, 14. In these calls `error_limit` is only judged: 0 will do. */
+uint64_t saigagalena_decrypt_phase(uint32_t modulus, size_t n, uint32_t error_limit, const uint32_t *secret, size_t secret_len,
                                    const uint32_t *ciphertext, size_t ciphertext_len);
-uint64_t saigagalena_decrypt_phase_signed(uint32_t modulus, size_t n, uint32_t bound, const int32_t *secret, size_t secret_len,
+uint64_t saigagalena_decrypt_phase_signed(uint32_t modulus, size_t n, uint32_t error_limit, const int32_t *secret, size_t secret_len,
                                           const uint32_t *ciphertext, size_t ciphertext_len);
 
 /* The message in the phase, or a refusal by 2, 6, 7, 8, 9, 10, 13, 14. */
-uint64_t saigagalena_decrypt_message(uint32_t modulus, size_t n, uint32_t t, uint32_t bound, const uint32_t *secret,
+uint64_t saigagalena_decrypt_message(uint32_t modulus, size_t n, uint32_t t, uint32_t error_limit, const uint32_t *secret,
                                      size_t secret_len, const uint32_t *ciphertext, size_t ciphertext_len);
-uint64_t saigagalena_decrypt_message_signed(uint32_t modulus, size_t n, uint32_t t, uint32_t bound, const int32_t *secret,
+uint64_t saigagalena_decrypt_message_signed(uint32_t modulus, size_t n, uint32_t t, uint32_t error_limit, const int32_t *secret,
                                             size_t secret_len, const uint32_t *ciphertext, size_t ciphertext_len);
 
 /* The phase or message of each ciphertext of n + 1 words; any number of them, none is fine.
  * Refuse by 2, 6, 9, 10, 11, 13, 14, and for messages 7, 8 too. */
-uint32_t saigagalena_decrypt_phase_batch(uint32_t modulus, size_t n, uint32_t bound, const uint32_t *secret, size_t secret_len,
+uint32_t saigagalena_decrypt_phase_batch(uint32_t modulus, size_t n, uint32_t error_limit, const uint32_t *secret, size_t secret_len,
                                          const uint32_t *input, size_t input_len, uint32_t *out, size_t out_len);
-uint32_t saigagalena_decrypt_message_batch(uint32_t modulus, size_t n, uint32_t t, uint32_t bound, const uint32_t *secret,
+uint32_t saigagalena_decrypt_message_batch(uint32_t modulus, size_t n, uint32_t t, uint32_t error_limit, const uint32_t *secret,
                                            size_t secret_len, const uint32_t *input, size_t input_len, uint32_t *out,
                                            size_t out_len);
 
 /* The phase or message of each body of a packed ciphertext. Refuse as the batches. */
-uint32_t saigagalena_decrypt_phase_packed(uint32_t modulus, size_t n, uint32_t bound, const uint32_t *secret, size_t secret_len,
+uint32_t saigagalena_decrypt_phase_packed(uint32_t modulus, size_t n, uint32_t error_limit, const uint32_t *secret, size_t secret_len,
                                           const uint32_t *input, size_t input_len, uint32_t *out, size_t out_len);
-uint32_t saigagalena_decrypt_message_packed(uint32_t modulus, size_t n, uint32_t t, uint32_t bound, const uint32_t *secret,
+uint32_t saigagalena_decrypt_message_packed(uint32_t modulus, size_t n, uint32_t t, uint32_t error_limit, const uint32_t *secret,
                                             size_t secret_len, const uint32_t *input, size_t input_len, uint32_t *out,
                                             size_t out_len);
 
 /* ---- public key: n ciphertexts of 0, one after the other */
 
 /* From n masks and n errors. Refuse by 2, 6, 9, 11, 12, 13, 14, 15. */
-uint32_t saigagalena_public_key_generate(uint32_t modulus, size_t n, uint32_t bound, const uint32_t *secret, size_t secret_len,
+uint32_t saigagalena_public_key_generate(uint32_t modulus, size_t n, uint32_t error_limit, const uint32_t *secret, size_t secret_len,
                                          const uint32_t *masks, size_t masks_len, const int32_t *errors, size_t errors_len,
                                          uint32_t *out, size_t out_len);
-uint32_t saigagalena_public_key_generate_signed(uint32_t modulus, size_t n, uint32_t bound, const int32_t *secret,
+uint32_t saigagalena_public_key_generate_signed(uint32_t modulus, size_t n, uint32_t error_limit, const int32_t *secret,
                                                 size_t secret_len, const uint32_t *masks, size_t masks_len,
                                                 const int32_t *errors, size_t errors_len, uint32_t *out, size_t out_len);
 
 /* One ciphertext from n + 1 errors and n coefficients, each -1, 0 or 1. No tally.
  * Refuse by 2, 6, 9, 11, 12, 13, 14, 15, and for a message 7, 8, 16 too. */
-uint32_t saigagalena_public_key_encrypt_encoded(uint32_t modulus, size_t n, uint32_t bound, const uint32_t *key, size_t key_len,
+uint32_t saigagalena_public_key_encrypt_encoded(uint32_t modulus, size_t n, uint32_t error_limit, const uint32_t *key, size_t key_len,
                                                 const int32_t *errors, size_t errors_len, const int32_t *coefficients,
                                                 size_t coefficients_len, uint32_t plaintext, uint32_t *out, size_t out_len);
-uint32_t saigagalena_public_key_encrypt_message(uint32_t modulus, size_t n, uint32_t t, uint32_t bound, uint32_t centered,
+uint32_t saigagalena_public_key_encrypt_message(uint32_t modulus, size_t n, uint32_t t, uint32_t error_limit, uint32_t centered,
                                                 const uint32_t *key, size_t key_len, const int32_t *errors, size_t errors_len,
                                                 const int32_t *coefficients, size_t coefficients_len, uint32_t message,
                                                 uint32_t *out, size_t out_len);
@@ -188,14 +188,14 @@ uint32_t saigagalena_extract(uint32_t modulus, size_t n, const uint32_t *input, 
 /*
  * A switching key: for each place i of the input key, then each level j, an encryption of s_i * weight j under the
  * output key: m + 1 words. Masks (m words each) and errors (one each) are lent in that order; errors lie within
- * -bound .. bound. Refuse by 1 to 6, 9, 11, 12, 13, 14, 15.
+ * -error_limit .. error_limit. Refuse by 1 to 6, 9, 11, 12, 13, 14, 15.
  */
-uint32_t saigagalena_key_generate(uint32_t modulus, uint32_t base_log, uint32_t levels, size_t n, size_t m, uint32_t bound,
+uint32_t saigagalena_key_generate(uint32_t modulus, uint32_t base_log, uint32_t levels, size_t n, size_t m, uint32_t error_limit,
                                   const uint32_t *input_key, size_t input_key_len, const uint32_t *output_key,
                                   size_t output_key_len, const uint32_t *masks, size_t masks_len, const int32_t *errors,
                                   size_t errors_len, uint32_t *out, size_t out_len);
 uint32_t saigagalena_key_generate_signed(uint32_t modulus, uint32_t base_log, uint32_t levels, size_t n, size_t m,
-                                         uint32_t bound, const int32_t *input_key, size_t input_key_len,
+                                         uint32_t error_limit, const int32_t *input_key, size_t input_key_len,
                                          const uint32_t *output_key, size_t output_key_len, const uint32_t *masks,
                                          size_t masks_len, const int32_t *errors, size_t errors_len, uint32_t *out,
                                          size_t out_len);

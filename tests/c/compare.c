@@ -117,3 +117,18 @@ int agrees(const struct call *call, const struct operands *o, enum placement pla
     }
     return agree;
 }
+
+int refuses_unread(const struct call *call, const struct operands *o, uint32_t number)
+{
+    struct operands closed = *o;
+
+    current_call = call;
+    current = o;
+    close_slices(call, &closed);
+    const uint64_t got = library_answer(call, &closed);
+    const uint64_t want = call->takes & ANSWER ? (UINT64_C(1) << 32) + number : number;
+
+    if (got != want)
+        printf("%s: answered %" PRIu64 ", not %" PRIu64 ", where no slice may be read\n", call->name, got, want);
+    return got == want;
+}

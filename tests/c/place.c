@@ -40,6 +40,17 @@ void *new_room(void)
     return at + page;
 }
 
+void close_slices(const struct call *call, struct operands *o)
+{
+    static unsigned char *closed;
+
+    if (closed == NULL)
+        closed = pages((size_t)sysconf(_SC_PAGESIZE));
+    for (int f = 0; f < FIELDS; f++)
+        if (call->fields >> f & 1)
+            o->slice[f].at = closed;
+}
+
 static void make_rooms(void)
 {
     for (int f = 0; f < FIELDS; f++) {

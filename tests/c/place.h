@@ -19,6 +19,9 @@ void place(const struct call *call, const struct operands *from, enum placement 
 /* Whether all words around the placed slices are as they were; frees what is on the heap. */
 int unplace(struct operands *placed);
 
+/* Points every slice of the call at pages that may not even be read. */
+void close_slices(const struct call *call, struct operands *o);
+
 /* Room for a slice of MOST_BYTES; pages are taken as they are touched. */
 void *new_room(void);
 

@@ -1,7 +1,8 @@
 /*
  * Every call of the library against the model of document 01: accepted calls, every refusal alone, every pair of damages
  * (the smaller number wins), and empty slices with null pointers. Each comparison is of the answer, of all buffers and of
- * what lies around them. scripts/c_test.sh builds and runs it.
+ * what lies around them; where a number below 14 applies, the call is made again over pages that may not be read.
+ * scripts/c_test.sh builds and runs it.
  */
 #include <stdio.h>
 #include <stdlib.h>
@@ -11,6 +12,7 @@
 #include "draw.h"
 
 #define NUMBERS 18
+#define FIRST_OF_VALUES 14 /* numbers below it are judged before a word is read */
 #define COUNT(list) (sizeof(list) / sizeof(list)[0])
 
 /* What was seen of a call. */
@@ -34,6 +36,8 @@ static void try(const struct call *call, const struct operands *o, struct seen *
         return;
     }
     seen->refused++;
+    if (first < FIRST_OF_VALUES)
+        seen->wrong += !refuses_unread(call, o, first);
     seen->first[first]++;
     seen->alone[first] += applying == UINT32_C(1) << first;
     for (unsigned other = first + 1; other < NUMBERS; other++)

@@ -1,10 +1,10 @@
-// Checks that several calls share, each exact for every input, and the chain that keeps the first number.
+// Checks that several calls share, each exact for every input; judged.rt has the first number that applies.
 ghost use mathlib.Core.Path.{_≡_};
 ghost use mathlib.Core.Bool.{_||_};
 ghost use Prim.Native.Nat.{_+_, _*_, _/_};
-ghost use Rattle.scheme.specs.Checks.{modulusFails, plaintextFails, smallFails, lengthFails, batchFails, boundFails, wordFails, wordsFail, magnitudesFail, signedFail, errorsFail, coefficientsFail, messageFails, messagesFail};
+ghost use Rattle.scheme.specs.Checks.{modulusFails, plaintextFails, smallFails, lengthFails, batchFails, errorLimitFails, wordFails};
+ghost use Rattle.scheme.specs.Checks.{wordsFail, magnitudesFail, signedFail, errorsFail, coefficientsFail, messageFails, messagesFail};
 ghost use Rattle.primus_reduce.specs.Ring.{meant, sizeOf};
-ghost use Rattle.checks.specs.Refuse.{Next};
 mod judged;
 
 pub use judged::Sizes;
@@ -16,18 +16,6 @@ use primus_reduce::magnitude;
 pub enum WordAnswer {
     Word(u32),
     Refused(u32),
-}
-
-// The refusal r so far, or `number` where there is none yet and this check fails.
-pub fn refuse(r: u32, fails: bool, number: u32) -> u32
-    ensures { λ x. ⌜ Next r fails number x ⌝ }
-{
-    if r == 0 {
-        if fails {
-            return number;
-        }
-    }
-    r
 }
 
 // 2: an explicit modulus is below 4.
@@ -95,11 +83,11 @@ pub fn runs_differ(len: usize, count: usize, width: usize) -> bool
 }
 
 // 13: E is above 1,048,576, or not below q.
-pub fn bound_refused(bound: u32, q: Modulus) -> bool
-    ensures { λ r. ⌜ r ≡ boundFails (sizeOf q) bound ⌝ }
+pub fn error_limit_refused(error_limit: u32, q: Modulus) -> bool
+    ensures { λ r. ⌜ r ≡ errorLimitFails (sizeOf q) «error_limit» ⌝ }
 {
     let q = q.size();
-    1_048_576 < bound || q <= bound as u64
+    1_048_576 < error_limit || q <= error_limit as u64
 }
 
 // 14, one word.
@@ -165,10 +153,10 @@ pub fn signed_refused(q: Modulus, s: &[i32]) -> bool
 }
 
 // 15, errors: outside ±E.
-pub fn errors_refused(bound: u32, s: &[i32]) -> bool
-    ensures { λ r. ⌜ r ≡ errorsFail bound (now (s .entry)) ⌝ }
+pub fn errors_refused(error_limit: u32, s: &[i32]) -> bool
+    ensures { λ r. ⌜ r ≡ errorsFail «error_limit» (now (s .entry)) ⌝ }
 {
-    any_outside(s, bound as u64 + 1)
+    any_outside(s, error_limit as u64 + 1)
 }
 
 // 15, coefficients: none of −1, 0, 1.
@@ -185,7 +173,7 @@ pub fn message_refused(t: u32, m: u32) -> bool
     t <= m
 }
 
-// 16, a run of messages: the scan for words, with t as the bound.
+// 16, a run of messages: the scan for words, with t as the limit.
 pub fn messages_refused(t: u32, s: &[u32]) -> bool
     ensures { λ r. ⌜ r ≡ messagesFail t (now (s .entry)) ⌝ }
 {

@@ -1,6 +1,3 @@
-// Parts of a record.
-use primus_reduce::Modulus;
-
 // Six words from `at` on.
 pub(crate) fn six(r: &[u8], at: usize) -> [u32; 6] {
     if 1000 < at {
@@ -14,12 +11,4 @@ pub(crate) fn six(r: &[u8], at: usize) -> [u32; 6] {
         little_endian::u32_at(r, at + 16),
         little_endian::u32_at(r, at + 20),
     ]
-}
-
-// A record's first five bytes.
-pub(crate) fn modulus(r: &[u8]) -> Modulus {
-    if little_endian::u8_at(r, 0) == 0 {
-        return Modulus::Native;
-    }
-    Modulus::Explicit(little_endian::u32_at(r, 1))
 }

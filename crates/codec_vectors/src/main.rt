@@ -4,8 +4,6 @@ mod bytes;
 mod slices;
 mod values;
 
-use libc::STDOUT_FILENO;
-
 // Records compared, those that differ, and the first of these, counted from 0.
 struct Score {
     compared: u32,
@@ -18,34 +16,24 @@ struct Outcome {
     right: bool,
 }
 
+fn more(right: bool) -> Outcome {
+    Outcome { more: true, right }
+}
+
+fn ended(right: bool) -> Outcome {
+    Outcome { more: false, right }
+}
+
 fn value_turn(fd: i32) -> Outcome {
     let mut r = [0u8; 37];
     let n = io::read_full(fd, &mut r);
-    if n < 37 {
-        return Outcome {
-            more: true,
-            right: false,
-        };
-    }
-    Outcome {
-        more: true,
-        right: values::right(&r),
-    }
+    more(n == 37 && values::right(&r))
 }
 
 fn slice_turn(fd: i32) -> Outcome {
     let mut r = [0u8; 86];
     let n = io::read_full(fd, &mut r);
-    if n < 86 {
-        return Outcome {
-            more: true,
-            right: false,
-        };
-    }
-    Outcome {
-        more: true,
-        right: slices::right(&r),
-    }
+    more(n == 86 && slices::right(&r))
 }
 
 // One record. A file that ends without its end record, or has another tag, counts as one more that differs.
@@ -53,22 +41,13 @@ fn turn(fd: i32) -> Outcome {
     let mut tag = [0u8; 1];
     let n = io::read_full(fd, &mut tag);
     if n < 1 {
-        return Outcome {
-            more: false,
-            right: false,
-        };
+        return ended(false);
     }
     match tag[0] {
-        0 => Outcome {
-            more: false,
-            right: true,
-        },
+        0 => ended(true),
         1 => value_turn(fd),
         2 => slice_turn(fd),
-        _ => Outcome {
-            more: false,
-            right: false,
-        },
+        _ => ended(false),
     }
 }
 
@@ -131,14 +110,9 @@ fn main() {
     };
     let made = file(b"codec.bin", none);
     let s = file(b"oracle.bin", made);
-    io::write_all(STDOUT_FILENO, b"compared ");
-    io::print_decimal(STDOUT_FILENO, s.compared as u64);
-    io::write_all(STDOUT_FILENO, b"\nwrong ");
-    io::print_decimal(STDOUT_FILENO, s.wrong as u64);
-    io::write_all(STDOUT_FILENO, b"\n");
+    programs::say(b"compared ", s.compared as u64);
+    programs::say(b"wrong ", s.wrong as u64);
     if s.wrong != 0 {
-        io::write_all(STDOUT_FILENO, b"first wrong ");
-        io::print_decimal(STDOUT_FILENO, s.first as u64);
-        io::write_all(STDOUT_FILENO, b"\n");
+        programs::say(b"first wrong ", s.first as u64);
     }
 }

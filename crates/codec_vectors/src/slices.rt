@@ -55,7 +55,7 @@ fn answer(codec: RoundedCodec, r: &[u8], lent: &[u32], buffer: &mut [u32]) -> u3
     if buffer.len() < m {
         return 99;
     }
-    call_of(codec, r, &lent[..n], &mut buffer[..m])
+    call_of(codec, r, &lent[0..n], &mut buffer[0..m])
 }
 
 fn same(a: [u32; 6], b: [u32; 6]) -> bool {
@@ -67,7 +67,7 @@ fn same(a: [u32; 6], b: [u32; 6]) -> bool {
 pub(crate) fn right(r: &[u8]) -> bool {
     let lent = bytes::six(r, 14);
     let mut buffer = bytes::six(r, 38);
-    match RoundedCodec::try_new(little_endian::u32_at(r, 5), bytes::modulus(r)) {
+    match RoundedCodec::try_new(little_endian::u32_at(r, 5), programs::modulus_at(r, 0)) {
         RoundedCodecAnswer::Accepted(codec) => {
             let refusal = answer(codec, r, &lent, &mut buffer);
             refusal == little_endian::u8_at(r, 13) && same(buffer, bytes::six(r, 62))

@@ -1,10 +1,9 @@
 // A value record: try_new, the value calls in both embeddings, and the C call.
-use crate::bytes;
+use checks::WordAnswer;
 use primus_encoding::MessageDecoder;
 use primus_encoding::PlaintextEmbedding;
 use primus_encoding::RoundedCodec;
 use primus_encoding::RoundedCodecAnswer;
-use primus_encoding::WordAnswer;
 
 fn is(answer: WordAnswer, refusal: u32, value: u32) -> bool {
     match answer {
@@ -70,7 +69,7 @@ fn c_right(r: &[u8]) -> bool {
 
 pub(crate) fn right(r: &[u8]) -> bool {
     let refusal = little_endian::u8_at(r, 17);
-    match RoundedCodec::try_new(little_endian::u32_at(r, 5), bytes::modulus(r)) {
+    match RoundedCodec::try_new(little_endian::u32_at(r, 5), programs::modulus_at(r, 0)) {
         RoundedCodecAnswer::Accepted(codec) => {
             refusal == 0 && encodings_right(codec, r) && decodings_right(codec, r) && c_right(r)
         }

@@ -1,12 +1,12 @@
 // A basis record: try_new's answer, and what the basis then says of itself.
+use crate::bytes;
+use checks::WordAnswer;
 use primus_decompose::ApproxSignedBasis;
 use primus_decompose::ApproxSignedBasisAnswer;
 use primus_decompose::DecompositionBaseLog;
 use primus_decompose::DecompositionBaseLogAnswer;
 use primus_decompose::DecompositionLevelCount;
 use primus_decompose::RetainedLevels;
-use primus_decompose::WordAnswer;
-use primus_reduce::Modulus;
 
 // The basis that was accepted last.
 pub enum Held {
@@ -19,13 +19,6 @@ pub struct Compared {
     pub held: Held,
 }
 
-fn modulus_of(r: &[u8]) -> Modulus {
-    if little_endian::u8_at(r, 0) == 0 {
-        return Modulus::Native;
-    }
-    Modulus::Explicit(little_endian::u32_at(r, 1))
-}
-
 fn levels_of(r: &[u8]) -> RetainedLevels {
     if little_endian::u8_at(r, 9) == 0 {
         return RetainedLevels::Full;
@@ -36,7 +29,7 @@ fn levels_of(r: &[u8]) -> RetainedLevels {
 fn try_new(r: &[u8]) -> ApproxSignedBasisAnswer {
     match DecompositionBaseLog::try_new(little_endian::u32_at(r, 5)) {
         DecompositionBaseLogAnswer::Accepted(b) => ApproxSignedBasis::try_new(
-            modulus_of(r),
+            programs::modulus_at(r, 0),
             b,
             levels_of(r),
         ),
@@ -51,20 +44,6 @@ fn threshold_is(b: ApproxSignedBasis, t: u32) -> bool {
     }
 }
 
-fn weights_are(w: &[u32; 16], r: &[u8]) -> bool {
-    let mut right = true;
-    let mut j = 0;
-    let mut at = 30;
-    while j < 16 {
-        if w[j] != little_endian::u32_at(r, at) {
-            right = false;
-        }
-        j += 1;
-        at = std::num::wrapping_add_usize(at, 4);
-    }
-    right
-}
-
 // k, L, d, H, T and the weights
 fn says(b: ApproxSignedBasis, r: &[u8]) -> bool {
     let levels = b.level_count();
@@ -74,7 +53,7 @@ fn says(b: ApproxSignedBasis, r: &[u8]) -> bool {
     let d = b.drop_bits() == little_endian::u8_at(r, 21);
     let h = b.approximate_error_bound() == little_endian::u32_at(r, 22);
     let t = threshold_is(b, little_endian::u32_at(r, 26));
-    k && l && d && h && t && weights_are(&w, r)
+    k && l && d && h && t && bytes::run_is(&w, 0, 1, 16, r, 30)
 }
 
 // A refused basis keeps the one that is held.

@@ -5,7 +5,6 @@ mod bytes;
 mod word;
 
 use basis::Held;
-use libc::STDOUT_FILENO;
 
 struct State {
     held: Held,
@@ -109,12 +108,6 @@ fn all(fd: i32, before: State) -> State {
     s
 }
 
-fn print(name: &[u8], n: u64) {
-    io::write_all(STDOUT_FILENO, name);
-    io::print_decimal(STDOUT_FILENO, n);
-    io::write_all(STDOUT_FILENO, b"\n");
-}
-
 // The records of a file, counted on; a file that cannot be opened is one that is wrong.
 fn file(path: &[u8], s: State) -> State {
     let fd = os::open_read(path);
@@ -136,7 +129,7 @@ fn main() {
     };
     let made = file(b"digits.bin", none);
     let s = file(b"oracle.bin", made);
-    print(b"bases ", s.bases);
-    print(b"words ", s.words);
-    print(b"wrong ", s.wrong);
+    programs::say(b"bases ", s.bases);
+    programs::say(b"words ", s.words);
+    programs::say(b"wrong ", s.wrong);
 }

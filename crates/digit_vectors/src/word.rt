@@ -16,27 +16,6 @@ fn reading_is(b: ApproxSignedBasis, word: u32, refusal: u64, reading: u64, error
     }
 }
 
-// Words from `first` on, `step` apart, are the numbers of the record from `at` on.
-fn run_is(out: &[u32], first: usize, step: usize, count: usize, r: &[u8], at: usize) -> bool {
-    let mut right = true;
-    let mut i = first;
-    let mut p = at;
-    let mut j = 0;
-    while j < count {
-        if i < out.len() {
-            if out[i] != little_endian::u32_at(r, p) {
-                right = false;
-            }
-        } else {
-            right = false;
-        }
-        i = std::num::wrapping_add_usize(i, step);
-        p = std::num::wrapping_add_usize(p, 4);
-        j += 1;
-    }
-    right
-}
-
 fn steps_are(start: SignedDecomposer, count: usize, r: &[u8], at: usize) -> bool {
     let mut right = true;
     let mut d = start;
@@ -69,16 +48,10 @@ fn walk_is(
     }
 }
 
+// The buffer still holds the sevens that it was made of.
 fn unchanged(out: &[u32]) -> bool {
-    let mut same = true;
-    let mut i = 0;
-    while i < out.len() {
-        if out[i] != 7 {
-            same = false;
-        }
-        i += 1;
-    }
-    same
+    let sevens = [7u32; 48];
+    programs::same(out, &sevens, out.len())
 }
 
 // The digits by `decompose`; a refusal leaves the sevens.
@@ -97,7 +70,7 @@ fn digits_are(
     if n != 0 {
         return unchanged(out);
     }
-    run_is(out, 0, 1, out.len(), r, at)
+    bytes::run_is(out, 0, 1, out.len(), r, at)
 }
 
 // The digits of three words by `decompose_slice_to`, the first and the last being the word.
@@ -118,14 +91,14 @@ fn runs_are(
     if n != 0 {
         return unchanged(out);
     }
-    run_is(out, 0, 3, levels, r, at) && run_is(out, 2, 3, levels, r, at)
+    bytes::run_is(out, 0, 3, levels, r, at) && bytes::run_is(out, 2, 3, levels, r, at)
 }
 
 // An output of one word too many is refused by 11 and left alone.
 fn long_is_refused(b: ApproxSignedBasis, word: u32, levels: usize, out: &mut [u32]) -> bool {
     if levels < out.len() {
         let n = levels + 1;
-        return b.decompose(word, &mut out[..n]) == 11;
+        return b.decompose(word, &mut out[0..n]) == 11;
     }
     false
 }
@@ -140,7 +113,7 @@ fn one_is(
     out: &mut [u32],
 ) -> bool {
     if levels <= out.len() {
-        return digits_are(b, word, &mut out[..levels], refusal, r, at);
+        return digits_are(b, word, &mut out[0..levels], refusal, r, at);
     }
     false
 }
@@ -156,7 +129,7 @@ fn three_are(
 ) -> bool {
     if levels <= out.len() / 3 {
         let n = 3 * levels;
-        return runs_are(b, word, &mut out[..n], levels, refusal, r, at);
+        return runs_are(b, word, &mut out[0..n], levels, refusal, r, at);
     }
     false
 }
@@ -189,7 +162,7 @@ pub(crate) fn compare(held: Held, r: &[u8]) -> bool {
     }
 }
 
-// The same for a short record, which is never refused.
+// A short record is never refused.
 pub(crate) fn compare_short(held: Held, r: &[u8]) -> bool {
     let word = little_endian::u32_at(r, 0);
     match held {

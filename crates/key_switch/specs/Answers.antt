@@ -8,7 +8,7 @@ use lib.Dec.{eqb, leb}
 use lib.ListN.{length, getD}
 use Rattle.scheme.specs.Numbers.{pick}
 use Rattle.scheme.specs.Switch.{Below, entryOf}
-use Rattle.scheme.specs.Checks.{Check, row, firstOf, dimensionFails, modulusFails, lengthFails, batchFails, boundFails, wordsFail, errorsFail}
+use Rattle.scheme.specs.Checks.{Check, row, firstOf, dimensionFails, modulusFails, lengthFails, batchFails, errorLimitFails, wordsFail, errorsFail}
 use Rattle.primus_reduce.specs.Ring.{meant, sizeOf}
 use Rattle.primus_lwe.specs.declared.parameter.LweEncryptionParameters.{LweEncryptionParameters}
 use Rattle.scheme.specs.Basis.{weight}
@@ -109,7 +109,7 @@ generateRows z E len bad s′ masks errors room =
     ∷ row (lengthFails room (z .n * z .levels * (z .m + 1))) 11
     ∷ row (lengthFails (length masks) (z .n * z .levels * z .m)) 12
     ∷ row (lengthFails (length errors) (z .n * z .levels)) 12
-    ∷ row (boundFails (sizeOf (z .modulus)) E) 13
+    ∷ row (errorLimitFails (sizeOf (z .modulus)) E) 13
     ∷ row bad 14
     ∷ row (wordsFail (sizeOf (z .modulus)) s′) 14
     ∷ row (wordsFail (sizeOf (z .modulus)) masks) 14
@@ -131,7 +131,7 @@ pub record Generable (p : PreparedBasis) (e : LweEncryptionParameters) (weights 
   pub fits : room ≡ n * p .«level_count» * (e .dimension .0 + 1)
   pub masked : length masks ≡ n * p .«level_count» * e .dimension .0
   pub errored : length errors ≡ n * p .«level_count»
-  pub bounded : boundFails (sizeOf (p .modulus)) (e .bound) ≡ false
+  pub bounded : errorLimitFails (sizeOf (p .modulus)) (e .bound) ≡ false
   pub words : wordsFail (sizeOf (p .modulus)) s′ ≡ false
   pub mask-words : wordsFail (sizeOf (p .modulus)) masks ≡ false
   pub errors-within : errorsFail (e .bound) errors ≡ false
@@ -146,7 +146,7 @@ pub record EntryReady (P : LweEncryptionParameters) (m k p : ℕ) (s′ masks : 
   pub fits : k * (m + 1) + (m + 1) ≤ room
   pub masked : k * m + m ≤ length masks
   pub errored : k < length errors
-  pub bounded : boundFails (sizeOf (P .modulus)) (P .bound) ≡ false
+  pub bounded : errorLimitFails (sizeOf (P .modulus)) (P .bound) ≡ false
   pub words : wordsFail (sizeOf (P .modulus)) s′ ≡ false
   pub mask-words : wordsFail (sizeOf (P .modulus)) masks ≡ false
   pub plaintext : p < sizeOf (P .modulus)

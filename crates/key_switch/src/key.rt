@@ -72,7 +72,7 @@ fn generate_refusal(
     let r = checks::refuse(r, parameters::key_differs(room, z.n, z.levels, z.m), 11);
     let r = checks::refuse(r, masks_differ(masks.len(), z.n, z.levels, z.m), 12);
     let r = checks::refuse(r, checks::runs_differ(errors.len(), z.n, z.levels), 12);
-    let r = checks::refuse(r, checks::bound_refused(bound, modulus), 13);
+    let r = checks::refuse(r, checks::error_limit_refused(bound, modulus), 13);
     let r = checks::refuse(r, key_refused, 14);
     let r = checks::refuse(r, checks::words_refused(modulus, output_key), 14);
     let r = checks::refuse(r, checks::words_refused(modulus, masks), 14);

@@ -3,6 +3,7 @@ use crate::record::Head;
 use crate::said;
 use crate::said::Said;
 use primus_lattice::LweDimension;
+use primus_lattice::LweDimensionAnswer;
 use primus_lattice::LweTag;
 use primus_lattice::LweTagAnswer;
 use primus_lattice::MarkAnswer;
@@ -12,16 +13,24 @@ use primus_lwe::LweEncryptionParametersAnswer;
 use primus_lwe::LweParameters;
 use primus_lwe::LweParametersAnswer;
 
+fn dimension(n: usize) -> Said {
+    match LweDimension::try_new(n) {
+        LweDimensionAnswer::Accepted(dimension) => said::holds(dimension.get() == n),
+        LweDimensionAnswer::Refused(r) => said::refused(r),
+    }
+}
+
 fn encryption_parameters_are(h: Head, p: LweEncryptionParameters) -> bool {
     let dimension = p.dimension;
     let modulus = p.modulus;
     let given = h.modulus;
-    dimension.get() == h.n && modulus.size() == given.size() && p.bound == h.bound
+    dimension.get() == h.n && modulus.size() == given.size() && p.error_limit == h.error_limit
 }
 
-fn encryption_parameters(h: Head, dimension: LweDimension) -> Said {
+fn encryption_parameters(h: Head) -> Said {
+    let dimension = LweDimension::given(h.n);
     let modulus = h.modulus;
-    match LweEncryptionParameters::try_new(dimension, modulus, h.bound) {
+    match LweEncryptionParameters::try_new(dimension, modulus, h.error_limit) {
         LweEncryptionParametersAnswer::Accepted(p) => said::holds(encryption_parameters_are(h, p)),
         LweEncryptionParametersAnswer::Refused(n) => said::refused(n),
     }
@@ -31,9 +40,10 @@ fn parameters_are(h: Head, p: LweParameters) -> bool {
     p.plaintext_modulus == h.t && encryption_parameters_are(h, p.encryption_parameters())
 }
 
-fn parameters(h: Head, dimension: LweDimension) -> Said {
+fn parameters(h: Head) -> Said {
+    let dimension = LweDimension::given(h.n);
     let modulus = h.modulus;
-    match LweParameters::try_new(dimension, modulus, h.t, h.bound) {
+    match LweParameters::try_new(dimension, modulus, h.t, h.error_limit) {
         LweParametersAnswer::Accepted(p) => said::holds(parameters_are(h, p)),
         LweParametersAnswer::Refused(n) => said::refused(n),
     }
@@ -87,12 +97,12 @@ fn mark(h: Head, x: LweTag) -> Said {
 }
 
 // Kinds 1 to 5.
-pub(crate) fn beside(h: Head, dimension: LweDimension, a: &[u32], b: &[u32], c: &[u32]) -> Said {
+pub(crate) fn beside(h: Head, a: &[u32], b: &[u32], c: &[u32]) -> Said {
     let kind = h.kind;
     match kind {
-        1 => said::holds(dimension.get() == h.n),
-        2 => encryption_parameters(h, dimension),
-        3 => parameters(h, dimension),
+        1 => dimension(h.n),
+        2 => encryption_parameters(h),
+        3 => parameters(h),
         4 => tally_sum(tag(a), tag(b), tag(c)),
         5 => mark(h, tag(a)),
         _ => said::nothing(),
@@ -100,11 +110,12 @@ pub(crate) fn beside(h: Head, dimension: LweDimension, a: &[u32], b: &[u32], c: 
 }
 
 // Kinds 6 and 7.
-pub(crate) fn ciphertexts(h: Head, dimension: LweDimension, b: &[u32], out: &mut [u32]) -> Said {
+pub(crate) fn ciphertexts(h: Head, b: &[u32], out: &mut [u32]) -> u32 {
+    let dimension = LweDimension::given(h.n);
     let modulus = h.modulus;
     if h.kind == 6 {
-        return said::number(primus_lattice::add_assign(modulus, dimension, out, b));
+        return primus_lattice::add_assign(modulus, dimension, out, b);
     }
     let index = h.value as usize;
-    said::number(primus_lattice::extract_lwe_at(modulus, dimension, b, index, out))
+    primus_lattice::extract_lwe_at(modulus, dimension, b, index, out)
 }

@@ -3,58 +3,25 @@
 mod lattice;
 mod packed;
 mod parameters;
-mod public;
 mod record;
 mod said;
 mod single;
 mod switch;
 
-use libc::STDOUT_FILENO;
-use primus_lattice::LweDimension;
-use primus_lattice::LweDimensionAnswer;
 use record::Head;
 use record::Lengths;
 use said::Said;
 
-// The call of a record under an accepted dimension, on operands of the record's lengths.
-fn call(
-    h: Head,
-    dimension: LweDimension,
-    a: &[u32],
-    b: &[u32],
-    c: &[u32],
-    d: &[i32],
-    e: &[i32],
-    out: &mut [u32],
-) -> Said {
-    if h.kind < 6 {
-        return lattice::beside(h, dimension, a, b, c);
-    }
-    if h.kind < 8 {
-        return lattice::ciphertexts(h, dimension, b, out);
-    }
-    if h.kind < 12 {
-        return single::encoded(h, dimension, a, b, d, e, out);
-    }
-    if h.kind < 16 {
-        return single::messages(h, dimension, a, b, d, e, out);
-    }
-    if h.kind < 19 {
-        return packed::encoded(h, dimension, a, b, c, e, out);
-    }
-    if h.kind < 23 {
-        return packed::messages(h, dimension, a, b, c, e, out);
-    }
-    public::said(h, dimension, a, b, d, e, out)
-}
-
-fn judged(h: Head, a: &[u32], b: &[u32], c: &[u32], d: &[i32], e: &[i32], out: &mut [u32]) -> Said {
-    if 26 < h.kind {
-        return switch::said(h, a, b, c, d, e, out);
-    }
-    match LweDimension::try_new(h.n) {
-        LweDimensionAnswer::Accepted(dimension) => call(h, dimension, a, b, c, d, e, out),
-        LweDimensionAnswer::Refused(n) => said::refused(n),
+// The call of a record, on operands of the record's lengths.
+fn call(h: Head, a: &[u32], b: &[u32], c: &[u32], d: &[i32], e: &[i32], out: &mut [u32]) -> Said {
+    let kind = h.kind;
+    match kind {
+        1..=5 => lattice::beside(h, a, b, c),
+        6 | 7 => said::number(lattice::ciphertexts(h, b, out)),
+        8 | 9 | 12 | 13 | 23..=26 => said::number(single::encrypt(h, a, b, d, e, out)),
+        10 | 11 | 14 | 15 => single::decrypt(h, a, b, d),
+        16..=22 => said::number(packed::call(h, a, b, c, e, out)),
+        _ => switch::said(h, a, b, c, d, e, out),
     }
 }
 
@@ -81,14 +48,14 @@ fn cut(
     if d.len() < ld || e.len() < le || out.len() < lo {
         return said::nothing();
     }
-    judged(
+    call(
         h,
-        &a[..la],
-        &b[..lb],
-        &c[..lc],
-        &d[..ld],
-        &e[..le],
-        &mut out[..lo],
+        &a[0..la],
+        &b[0..lb],
+        &c[0..lc],
+        &d[0..ld],
+        &e[0..le],
+        &mut out[0..lo],
     )
 }
 
@@ -102,7 +69,7 @@ fn right(h: Head, l: Lengths, bytes: &[u8; 65536]) -> bool {
     let mut out = record::words(bytes, p.before);
     let after = record::words(bytes, p.after);
     let s = cut(h, l, &a, &b, &c, &d, &e, &mut out);
-    s.refusal == h.refusal && s.value == h.answer && record::same(&out, &after, l.out)
+    s.refusal == h.refusal && s.value == h.answer && programs::same(&out, &after, l.out)
 }
 
 // The words of a record, read and compared.
@@ -113,7 +80,7 @@ fn compared(fd: i32, h: Head, l: Lengths) -> bool {
     if 65536 < end {
         return false;
     }
-    if io::read_full(fd, &mut bytes[..end]) < end {
+    if io::read_full(fd, &mut bytes[0..end]) < end {
         return false;
     }
     right(h, l, &bytes)
@@ -148,9 +115,7 @@ fn turn(fd: i32) -> Outcome {
 }
 
 fn say(name: &[u8], n: u32) {
-    io::write_all(STDOUT_FILENO, name);
-    io::print_decimal(STDOUT_FILENO, n as u64);
-    io::write_all(STDOUT_FILENO, b"\n");
+    programs::say(name, n as u64);
 }
 
 fn differs(number: u32, kind: u32) {
@@ -186,8 +151,7 @@ fn all(fd: i32, counts: &mut [u32; 40]) -> bool {
 fn print(counts: [u32; 40]) {
     let mut kind = 1;
     while kind < 33 {
-        io::write_all(STDOUT_FILENO, b"kind ");
-        io::print_decimal(STDOUT_FILENO, kind as u64);
+        programs::print(b"kind ", kind as u64);
         say(b": ", counts[kind]);
         kind += 1;
     }
@@ -212,6 +176,6 @@ fn main() {
     let rust = file(b"oracle.bin", &mut counts);
     print(counts);
     if encryption && switching && rust {
-        io::write_all(STDOUT_FILENO, b"all equal\n");
+        programs::write(b"all equal\n");
     }
 }

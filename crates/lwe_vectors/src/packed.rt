@@ -1,54 +1,20 @@
 // Packed ciphertexts and runs of ciphertexts, under words a: kinds 16 to 22.
 use crate::parameters;
 use crate::record::Head;
-use crate::said;
-use crate::said::Said;
-use primus_lattice::LweDimension;
 
-// Masks b, errors e, plaintexts c, the ciphertext in out; or the ciphertext b, and in out what it holds.
-pub(crate) fn encoded(
-    h: Head,
-    dimension: LweDimension,
-    a: &[u32],
-    b: &[u32],
-    c: &[u32],
-    e: &[i32],
-    out: &mut [u32],
-) -> Said {
-    let params = parameters::encryption(h, dimension);
-    let kind = h.kind;
-    match kind {
-        16 => said::number(primus_lwe::encrypt_encoded_packed(params, a, b, e, c, out)),
-        17 => said::number(primus_lwe::decrypt_phase_packed(params, a, b, out)),
-        _ => said::number(primus_lwe::decrypt_phase_batch_to(params, a, b, out)),
-    }
-}
-
-// The same with messages.
-pub(crate) fn messages(
-    h: Head,
-    dimension: LweDimension,
-    a: &[u32],
-    b: &[u32],
-    c: &[u32],
-    e: &[i32],
-    out: &mut [u32],
-) -> Said {
-    let params = parameters::message(h, dimension);
+// Masks b, errors e, plaintexts or messages c, the ciphertext in out; or the ciphertext b, and in out what it holds.
+pub(crate) fn call(h: Head, a: &[u32], b: &[u32], c: &[u32], e: &[i32], out: &mut [u32]) -> u32 {
+    let p = parameters::encryption(h);
+    let params = parameters::message(h);
     let embedding = h.embedding;
     let kind = h.kind;
     match kind {
-        19 => said::number(primus_lwe::encrypt_message_packed(params, embedding, a, b, e, c, out)),
-        20 => said::number(primus_lwe::decrypt_message_packed(params, a, b, out)),
-        21 => said::number(primus_lwe::encrypt_message_batch_to(
-            params,
-            embedding,
-            a,
-            b,
-            e,
-            c,
-            out,
-        )),
-        _ => said::number(primus_lwe::decrypt_message_batch_to(params, a, b, out)),
+        16 => primus_lwe_packed::encrypt_encoded_packed(p, a, b, e, c, out),
+        17 => primus_lwe_packed::decrypt_phase_packed(p, a, b, out),
+        18 => primus_lwe_batch::decrypt_phase_batch_to(p, a, b, out),
+        19 => primus_lwe_packed::encrypt_message_packed(params, embedding, a, b, e, c, out),
+        20 => primus_lwe_packed::decrypt_message_packed(params, a, b, out),
+        21 => primus_lwe_batch::encrypt_message_batch_to(params, embedding, a, b, e, c, out),
+        _ => primus_lwe_batch::decrypt_message_batch_to(params, a, b, out),
     }
 }

@@ -4,21 +4,23 @@ use primus_lattice::LweDimension;
 use primus_lwe::LweEncryptionParameters;
 use primus_lwe::LweParameters;
 
-pub(crate) fn encryption(h: Head, dimension: LweDimension) -> LweEncryptionParameters {
+pub(crate) fn encryption(h: Head) -> LweEncryptionParameters {
+    let dimension = LweDimension::given(h.n);
     let modulus = h.modulus;
     LweEncryptionParameters {
         dimension,
         modulus,
-        bound: h.bound,
+        error_limit: h.error_limit,
     }
 }
 
-pub(crate) fn message(h: Head, dimension: LweDimension) -> LweParameters {
+pub(crate) fn message(h: Head) -> LweParameters {
+    let dimension = LweDimension::given(h.n);
     let modulus = h.modulus;
     LweParameters {
         dimension,
         modulus,
         plaintext_modulus: h.t,
-        bound: h.bound,
+        error_limit: h.error_limit,
     }
 }

@@ -7,7 +7,7 @@ pub(crate) struct Head {
     pub(crate) modulus: Modulus,
     pub(crate) n: usize,
     pub(crate) t: u32,
-    pub(crate) bound: u32,
+    pub(crate) error_limit: u32,
     pub(crate) embedding: PlaintextEmbedding,
     pub(crate) refusal: u32,
     pub(crate) value: u32,
@@ -38,13 +38,6 @@ pub(crate) struct Places {
     pub(crate) end: usize,
 }
 
-fn modulus(r: &[u8]) -> Modulus {
-    if little_endian::u8_at(r, 1) == 0 {
-        return Modulus::Native;
-    }
-    Modulus::Explicit(little_endian::u32_at(r, 2))
-}
-
 fn embedding(r: &[u8]) -> PlaintextEmbedding {
     if little_endian::u8_at(r, 22) == 0 {
         return PlaintextEmbedding::Unsigned;
@@ -53,14 +46,14 @@ fn embedding(r: &[u8]) -> PlaintextEmbedding {
 }
 
 pub(crate) fn head_of(r: &[u8]) -> Head {
-    let modulus = modulus(r);
+    let modulus = programs::modulus_at(r, 1);
     let embedding = embedding(r);
     Head {
         kind: little_endian::u8_at(r, 0),
         modulus,
         n: little_endian::u64_at(r, 6) as usize,
         t: little_endian::u32_at(r, 14),
-        bound: little_endian::u32_at(r, 18),
+        error_limit: little_endian::u32_at(r, 18),
         embedding,
         refusal: little_endian::u8_at(r, 23),
         value: little_endian::u32_at(r, 24),
@@ -155,22 +148,4 @@ pub(crate) fn numbers(bytes: &[u8; 65536], from: usize) -> [i32; 2048] {
         i += 1;
     }
     room
-}
-
-// The first `count` words are the same.
-pub(crate) fn same(x: &[u32], y: &[u32], count: usize) -> bool {
-    let mut i = 0;
-    while i < count {
-        if x.len() <= i {
-            return false;
-        }
-        if y.len() <= i {
-            return false;
-        }
-        if x[i] != y[i] {
-            return false;
-        }
-        i += 1;
-    }
-    true
 }

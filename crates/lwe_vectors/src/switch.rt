@@ -1,15 +1,18 @@
-// Key switching: kinds 27 to 32, of data/switch.bin. Base log and dimensions are judged by their kinds, before the call.
+// Key switching: kinds 27 to 32, of data/switch.bin. The basis is judged before the call, the dimensions by it.
 use crate::record::Head;
 use crate::said;
 use crate::said::Said;
-use key_switch::LweKeySwitchingKey;
-use key_switch::LweKeySwitchingParameters;
-use key_switch::LweKeySwitchingParametersAnswer;
 use key_switch::key_switch_batch_to;
 use key_switch::key_switch_to;
-use key_switch::parameters_for;
+use key_switch_key::LweKeySwitchingKey;
+use key_switch_key::LweKeySwitchingParameters;
+use key_switch_key::LweKeySwitchingParametersAnswer;
+use primus_decompose::ApproxSignedBasis;
+use primus_decompose::ApproxSignedBasisAnswer;
+use primus_decompose::DecompositionBaseLog;
 use primus_decompose::DecompositionLevelCount;
 use primus_decompose::RetainedLevels;
+use primus_lattice::LweDimension;
 
 fn levels(n: u32) -> RetainedLevels {
     if n == 0xffff_ffff {
@@ -53,12 +56,12 @@ fn call(
     e: &[i32],
     out: &mut [u32],
 ) -> u32 {
-    let bound = h.bound;
+    let limit = h.error_limit;
     let kind = h.kind;
     match kind {
         27 => tried(params),
-        28 => LweKeySwitchingKey::generate(params, bound, a, c, b, e, out),
-        29 => LweKeySwitchingKey::generate_signed(params, bound, d, c, b, e, out),
+        28 => LweKeySwitchingKey::generate(params, limit, a, c, b, e, out),
+        29 => LweKeySwitchingKey::generate_signed(params, limit, d, c, b, e, out),
         30 => key_switch_to(params, a, b, out),
         31 => key_switch_batch_to(params, a, b, out),
         32 => entry(params, a, h.value, h.t, out),
@@ -66,9 +69,21 @@ fn call(
     }
 }
 
-fn parameters(h: Head) -> LweKeySwitchingParametersAnswer {
+fn basis(h: Head) -> ApproxSignedBasisAnswer {
     let modulus = h.modulus;
-    parameters_for(modulus, h.base_log, levels(h.levels), h.n, h.m)
+    ApproxSignedBasis::try_new(
+        modulus,
+        DecompositionBaseLog::given(h.base_log),
+        levels(h.levels),
+    )
+}
+
+fn parameters(h: Head, basis: ApproxSignedBasis) -> LweKeySwitchingParameters {
+    LweKeySwitchingParameters {
+        basis,
+        input_dimension: LweDimension::given(h.n),
+        output_dimension: LweDimension::given(h.m),
+    }
 }
 
 pub(crate) fn said(
@@ -80,10 +95,10 @@ pub(crate) fn said(
     e: &[i32],
     out: &mut [u32],
 ) -> Said {
-    match parameters(h) {
-        LweKeySwitchingParametersAnswer::Accepted(params) => {
-            said::number(call(h, params, a, b, c, d, e, out))
+    match basis(h) {
+        ApproxSignedBasisAnswer::Accepted(basis) => {
+            said::number(call(h, parameters(h, basis), a, b, c, d, e, out))
         }
-        LweKeySwitchingParametersAnswer::Refused(r) => said::refused(r),
+        ApproxSignedBasisAnswer::Refused(r) => said::refused(r),
     }
 }

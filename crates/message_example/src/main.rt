@@ -1,12 +1,12 @@
 // A message encrypted and opened, and one that is refused. The expected words are worked out by hand from document 01:
 // encode(5) = 5 × 2^28, so the body is 3 × 1000000007 − 123456789 − 3 + 1342177280 modulo 2^32.
+use checks::WordAnswer;
 use libc::STDOUT_FILENO;
 use primus_encoding::PlaintextEmbedding;
 use primus_lattice::LweDimension;
 use primus_lattice::LweDimensionAnswer;
 use primus_lwe::LweParameters;
 use primus_lwe::LweParametersAnswer;
-use primus_lwe::MessageAnswer;
 use primus_lwe::decrypt_message;
 use primus_lwe::encrypt_message_to;
 use primus_reduce::Modulus;
@@ -36,8 +36,8 @@ fn open(params: LweParameters, ciphertext: &[u32]) {
     let secret = [3u32, 0xffff_ffff];
     let opened = decrypt_message(params, &secret, ciphertext);
     match opened {
-        MessageAnswer::Message(m) => say(b"message ", m),
-        MessageAnswer::Refused(r) => say(b"refused ", r),
+        WordAnswer::Word(m) => say(b"message ", m),
+        WordAnswer::Refused(r) => say(b"refused ", r),
     }
 }
 

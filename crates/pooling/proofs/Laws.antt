@@ -9,7 +9,7 @@ use lib.Dec.{eqb, ltb, leb}
 use lib.ListN.{length, getD}
 use borrow.Author.Tests.{lt-ltb, le-ltb, leb-true, leb-false, not-false}
 use Rattle.scheme.specs.Numbers.{pick, tabulate}
-use Rattle.scheme.specs.Checks.{firstOf, allOf}
+use Rattle.scheme.specs.Checks.{Check, applies, firstIn, refusal, allOf}
 use Rattle.scheme.proofs.Lists.{length-tabulate, getD-tabulate}
 use Rattle.checks.proofs.Laws.{anyFails, any-hit, any-more, any-all}
 use Rattle.primus_lattice.specs.declared.tag.Tally.{Tally}
@@ -17,10 +17,13 @@ use Rattle.primus_lattice.specs.declared.tag.LweTag.{LweTag}
 use Rattle.primus_lattice.specs.declared.tag.LweTagAnswer.{LweTagAnswer}
 use Rattle.primus_lattice.specs.declared.tag.LweTagAnswer.the-variants.{Tag, Refused}
 use Rattle.primus_lattice.specs.Answers.{tagRows, tagAnswer}
-use Rattle.scheme.proofs.Checks.{passed, modulus-ok}
+use Rattle.scheme.proofs.Checks.{modulus-ok}
+use Rattle.scheme.proofs.Order.{passed}
 use Rattle.primus_reduce.specs.Ring.{meant, sizeOf}
+use Rattle.saved.specs.declared.head.Head.{Head}
+use Rattle.saved.specs.Layout.{headOf}
 use Rattle.pooling.specs.declared.total.PoolParameters.{PoolParameters}
-use Rattle.pooling.specs.Total.{sumOf, sumFails, placeFails, talliesFail, totalRows}
+use Rattle.pooling.specs.Total.{sumOf, sumFails, placeFails, talliesFail, totalRows, totalRefusal}
 
 -- ---- a scan of f 0, f 1, … of n terms
 
@@ -59,29 +62,39 @@ module _ (q x y : ℕ) (b : Bool) (e : b ≡ leb q x) (f : x ≡ y) where
 
 -- ---- two tallies
 
+-- the tag of a sum judges 17 alone
+tag-told : (x y : Tally) → tagAnswer x y ≡ pick (sumFails x y) (Refused 17) (Tag (record { tally = sumOf x y }))
+unfolding refusal firstIn
+tag-told x y = go (sumFails x y)
+  where
+    go : (b : Bool) → pick (eqb (pick b 17 0) 0) (Tag (record { tally = sumOf x y })) (Refused (pick b 17 0))
+        ≡ pick b (Refused 17) (Tag (record { tally = sumOf x y }))
+    go true = refl
+    go false = refl
+
 module _ (x y : Tally) (r : LweTagAnswer) (e : r ≡ tagAnswer x y) where
+  by : (b : Bool) → sumFails x y ≡ b → r ≡ pick b (Refused 17) (Tag (record { tally = sumOf x y }))
+  by b h = e ∙ tag-told x y ∙ ap (λ b. pick b (Refused 17) (Tag (record { tally = sumOf x y }))) h
+
   pub tag-is : (t : LweTag) → r ≡ Tag t → sumFails x y ≡ false → t .tally ≡ sumOf x y
   tag-is t f h =
-      let g : Tag t ≡ Tag (record { tally = sumOf x y }) = sym f ∙ e ∙ rw (not-false (eqb (firstOf (tagRows x y)) 0) h) refl in
+      let g : Tag t ≡ Tag (record { tally = sumOf x y }) = sym f ∙ by false h in
       let k : t ≡ record { tally = sumOf x y } = cc in
       ap (λ t. t .tally) k
 
-  by : (b : Bool) → eqb (firstOf (tagRows x y)) 0 ≡ b → r ≡ pick b (Tag (record { tally = sumOf x y })) (Refused (firstOf (tagRows x y)))
-  by b h = e ∙ rw h refl
-
   pub tag-accepts : (t : LweTag) → r ≡ Tag t → false ≡ sumFails x y
-  tag-accepts t f = go (eqb (firstOf (tagRows x y)) 0) refl
+  tag-accepts t f = go (sumFails x y) refl
     where
-      go : (b : Bool) → eqb (firstOf (tagRows x y)) 0 ≡ b → false ≡ not b
-      go true h = refl
-      go false h = let g : Tag t ≡ Refused (firstOf (tagRows x y)) = sym f ∙ by false h in cc
+      go : (b : Bool) → sumFails x y ≡ b → false ≡ b
+      go true h = let g : Tag t ≡ Refused 17 = sym f ∙ by true h in cc
+      go false h = refl
 
   pub tag-refuses : (n : ℕ) → r ≡ Refused n → true ≡ sumFails x y
-  tag-refuses n f = go (eqb (firstOf (tagRows x y)) 0) refl
+  tag-refuses n f = go (sumFails x y) refl
     where
-      go : (b : Bool) → eqb (firstOf (tagRows x y)) 0 ≡ b → true ≡ not b
-      go true h = let g : Refused n ≡ Tag (record { tally = sumOf x y }) = sym f ∙ by true h in cc
-      go false h = refl
+      go : (b : Bool) → sumFails x y ≡ b → true ≡ b
+      go true h = refl
+      go false h = let g : Refused n ≡ Tag (record { tally = sumOf x y }) = sym f ∙ by false h in cc
 
 pub fails-is : (x u y v : Tally) (b : Bool) → b ≡ sumFails x y → x ≡ u → y ≡ v → b ≡ sumFails u v
 fails-is x u y v b e f g = e ∙ ap₂ sumFails f g
@@ -96,14 +109,38 @@ place-ok xs s i e h =
     not-true true e = sym e
     not-true false e = refl
 
--- ---- what the checks leave
+-- ---- 19, then the order
 
-pub record Addable (q : ℕ) (xs s : List ℕ) : Type 0 where
-  pub positive : 0 < q
-  pub summed : talliesFail xs s ≡ false
+taken : {A : Type 0} (b : Bool) (x y : A) → b ≡ true → x ≡ pick b x y
+taken b x y e = rw e
 
-pub addable : (p : PoolParameters) (s xs tallies : List ℕ) → firstOf (totalRows p s xs tallies) ≡ 0 → Addable (sizeOf (p .modulus)) tallies s
-addable p s xs tallies e =
-    let a = passed (totalRows p s xs tallies) tt e in
-    let b = a .1 .1 .1 .1 .1 .1 .1 in
-    record { positive = omega (arith, modulus-ok 32 (meant (p .modulus)) (omega arith) (b .0)); summed = b .1 .1 .1 .1 .1 .1 .1 .1 .1 .1 .0 }
+left : {A : Type 0} (b : Bool) (x y : A) → b ≡ false → y ≡ pick b x y
+left b x y e = rw e
+
+module _ (p : PoolParameters) (s xs ts : List ℕ) where
+  abbrev rows : Head → List Check
+  rows h = totalRows p h s xs ts
+
+  pub foreign-is : {h : Head} {b : Bool} → h ≡ headOf s → b ≡ applies (rows h) 19 → b ≡ true → 19 ≡ totalRefusal p s xs ts
+  unfolding totalRefusal
+  foreign-is {h} e f t = taken _ _ _ (sym (ap (λ h. applies (rows h) 19) e) ∙ sym f ∙ t)
+
+  pub own-is : {h : Head} {b : Bool} {r : ℕ} → h ≡ headOf s → b ≡ applies (rows h) 19 → b ≡ false → r ≡ refusal (rows h) → r ≡ totalRefusal p s xs ts
+  unfolding totalRefusal
+  own-is {h} e f t g = g ∙ ap (λ h. refusal (rows h)) e ∙ left _ _ _ (sym (ap (λ h. applies (rows h) 19) e) ∙ sym f ∙ t)
+
+  pub in-order : totalRefusal p s xs ts ≡ 0 → refusal (rows (headOf s)) ≡ 0
+  unfolding totalRefusal
+  in-order e = go (applies (rows (headOf s)) 19) e
+    where
+      go : (b : Bool) → pick b 19 (refusal (rows (headOf s))) ≡ 0 → refusal (rows (headOf s)) ≡ 0
+      go true e = let z : _≡_ {A = ℕ} 19 0 = e in absurd (omega arith)
+      go false e = e
+
+  -- ---- what the checks leave
+
+  pub summable : totalRefusal p s xs ts ≡ 0 → talliesFail ts s ≡ false
+  summable e = passed (rows (headOf s)) (in-order e) 17 tt
+
+  pub positive : totalRefusal p s xs ts ≡ 0 → 0 < sizeOf (p .modulus)
+  positive e = omega (arith, modulus-ok 32 (meant (p .modulus)) (omega arith) (passed (rows (headOf s)) (in-order e) 2 tt))

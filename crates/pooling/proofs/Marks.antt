@@ -3,18 +3,19 @@
 --     added-tally
 -- Assumes nothing.
 use mathlib.Core.Path.{_≡_, refl, ap, _∙_}
-use mathlib.Core.Bool.{Bool, false}
+use mathlib.Core.Bool.{Bool, false, _||_}
 use mathlib.Core.List.{List}
 use Prim.Native.Nat.{ℕ, _+_, _^_, _≤_, _<_}
 use native.Mathlib.Omega.{arith}
+use lib.Dec.{ltb}
 use lib.ListN.{length, getD}
-use borrow.Author.Tests.{eqb-true, ne-eqb, ltb-false, not-false}
+use borrow.Author.Tests.{ne-eqb, ltb-false}
 use Rattle.scheme.specs.Tally as S
-use Rattle.scheme.proofs.Checks.{passed}
+use Rattle.scheme.proofs.Order.{neither}
 use Rattle.scheme.proofs.Lists.{getD-tabulate}
 use Rattle.primus_lattice.specs.declared.tag.Tally.{Tally}
 use Rattle.primus_lattice.specs.declared.tag.Tally.the-variants.{Absent, Present}
-use Rattle.primus_lattice.specs.Answers.{meantTally, heldTally, cap, tagRows, noTally, tallyFor, numberOfTally}
+use Rattle.primus_lattice.specs.Answers.{meantTally, heldTally, cap, noTally, tallyFor, numberOfTally}
 use Rattle.saved.specs.Layout.{savedTally}
 use Rattle.pooling.specs.Total.{sumOf, sumFails, placeSum, talliesFail, addTallies}
 use Rattle.pooling.proofs.Laws.{place-ok}
@@ -28,8 +29,8 @@ back : (x y : Tally) → sumFails x y ≡ false → tallyFor (numberOfTally (sum
 back Absent y h = refl
 back (Present a) Absent h = refl
 back (Present a) (Present b) h =
-    let f = passed (tagRows (Present a) (Present b)) tt (eqb-true _ 0 (not-false _ h)) in
-    let l : a + b ≤ 2 ^ 32 = ltb-false cap (a + b) (f .1 .1 .0) in
+    let f = neither (ltb cap a) (ltb cap (a + b) || ltb cap b) h .1 in
+    let l : a + b ≤ 2 ^ 32 = ltb-false cap (a + b) (neither (ltb cap b) (ltb cap (a + b)) f .1) in
     rw (ne-eqb (a + b) noTally (λ e. omega arith))
 
 pub added-tally : (xs s : List ℕ) (i : ℕ) → talliesFail xs s ≡ false → i < length xs

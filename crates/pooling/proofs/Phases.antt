@@ -4,6 +4,7 @@
 --     refused-none   a refused file leaves every word and every tally
 -- Assumes nothing.
 use mathlib.Core.Path.{_≡_, refl, sym, ap, ap₂, _∙_, subst}
+use mathlib.Core.Bool.{_||_}
 use mathlib.Core.List.{List, [], _∷_, zipWith}
 use Prim.Native.Nat.{ℕ, zero, suc, _+_, _*_, _%_, _<_}
 use native.Mathlib.Omega.{arith}
@@ -12,16 +13,17 @@ use lib.ListN.{length, take, drop}
 use borrow.Author.Tests.{ne-eqb}
 use Rattle.scheme.specs.Numbers.{Cong}
 use Rattle.scheme.specs.Lwe.{phaseOf, addWords, rowOf}
-use Rattle.scheme.specs.Checks.{firstOf, Answers}
-use Rattle.scheme.proofs.Checks.{passed, length-ok}
+use Rattle.scheme.specs.Checks.{lengthFails}
+use Rattle.scheme.proofs.Checks.{length-ok}
+use Rattle.scheme.proofs.Order.{passed, neither}
 use Rattle.scheme.proofs.Lists.{length-tabulate}
 use Rattle.scheme.proofs.Rows.{part-length}
 use Rattle.scheme.proofs.Lwe.{phase-sum}
 use Rattle.primus_reduce.specs.Ring.{sizeOf}
 use Rattle.saved.specs.Layout.{headOf, fileWord, fileWords}
 use Rattle.pooling.specs.declared.total.PoolParameters.{PoolParameters}
-use Rattle.pooling.specs.Total.{totalRows}
-use Rattle.pooling.proofs.Laws.{addable}
+use Rattle.pooling.specs.Total.{totalRows, totalRefusal, AddsSaved}
+use Rattle.pooling.proofs.Laws.{in-order, positive}
 
 -- ---- a part of two lists that are taken together
 
@@ -52,12 +54,15 @@ added-row q n i xs ys =
 
 -- ---- an accepted file, and a refused one
 
-module _ (p : PoolParameters) (s xs tallies : List ℕ) (e : firstOf (totalRows p s xs tallies) ≡ 0) where
+module _ (p : PoolParameters) (s xs tallies : List ℕ) (e : totalRefusal p s xs tallies ≡ 0) where
   whole : length xs ≡ headOf s .count * (p .dimension .0 + 1)
   whole =
-      let a = passed (totalRows p s xs tallies) tt e in
-      let b = a .1 .1 .1 .1 .1 .1 .1 .1 .1 .1 .1 .1 in
-      length-ok _ _ (b .1 .0) ∙ length-ok _ _ (b .0)
+      let h = headOf s in
+      let n = p .dimension .0 in
+      let ten = passed (totalRows p h s xs tallies) (in-order p s xs tallies e) 10 tt in
+      let two = neither (lengthFails (h .n) n) (lengthFails (length xs) (h .words) || lengthFails (h .words) (h .count * (n + 1))) ten .1 in
+      let one = neither (lengthFails (h .words) (h .count * (n + 1))) (lengthFails (length xs) (h .words)) two in
+      length-ok _ _ (one .1) ∙ length-ok _ _ (one .0)
 
   pub added-phase : (i : ℕ) → i < headOf s .count → (k : ℕ → ℤ)
       → Cong (sizeOf (p .modulus)) (pos (phaseOf (sizeOf (p .modulus)) (p .dimension .0) (rowOf (p .dimension .0) (addWords (sizeOf (p .modulus)) xs (fileWords s (length xs))) i) k))
@@ -68,8 +73,10 @@ module _ (p : PoolParameters) (s xs tallies : List ℕ) (e : firstOf (totalRows 
       let n = p .dimension .0 in
       let ys = fileWords s (length xs) in
       subst (λ l. Cong q (pos (phaseOf q n l k)) (pos (phaseOf q n (rowOf n xs i) k) +ℤ pos (phaseOf q n (rowOf n ys i) k))) (sym (added-row q n i xs ys))
-      (phase-sum q (addable p s xs tallies e .positive) n (rowOf n xs i) (rowOf n ys i) k (part-length (n + 1) (headOf s .count) xs i whole h)
+      (phase-sum q (positive p s xs tallies e) n (rowOf n xs i) (rowOf n ys i) k (part-length (n + 1) (headOf s .count) xs i whole h)
       (part-length (n + 1) (headOf s .count) ys i (length-tabulate (length xs) (fileWord s) ∙ whole) h))
 
-pub refused-none : {refusal r : ℕ} {result before after : List ℕ} → Answers refusal result before r after → (refusal ≡ 0 → ⊥) → after ≡ before
-refused-none {refusal} a h = a .written ∙ rw (ne-eqb refusal 0 h)
+pub refused-none : {p : PoolParameters} {s xs ts words tallies : List ℕ} {r : ℕ} → AddsSaved p s xs ts r words tallies → (r ≡ 0 → ⊥)
+    → (words ≡ xs) × (tallies ≡ ts)
+refused-none {p} {s} {xs} {ts} a h =
+    let n = ne-eqb (totalRefusal p s xs ts) 0 (λ z. h (a .answered ∙ z)) in (a .adds ∙ rw n, a .tallied ∙ rw n)

@@ -1,12 +1,15 @@
--- A total: the words of some ciphertexts, one after the other, and a tally for each. A saved file is added place by place.
+-- A total: the words of some ciphertexts, one after the other, and a tally for each. A file is added place by place.
+use mathlib.Core.Path.{_≡_}
 use mathlib.Core.Bool.{Bool, not, _||_}
 use mathlib.Core.List.{List, [], _∷_, _++_}
 use Prim.Native.Nat.{ℕ, _+_, _*_}
 use lib.Dec.{eqb}
 use lib.ListN.{length, getD}
-use Rattle.scheme.specs.Numbers.{tabulate}
+use Rattle.scheme.specs.Numbers.{pick, tabulate}
 use Rattle.scheme.specs.Tally.{addTally}
-use Rattle.scheme.specs.Checks.{Check, row, firstOf, allOf, modulusFails, dimensionFails, plaintextFails, smallFails, lengthFails, wordsFail}
+use Rattle.scheme.specs.Lwe.{addWords}
+use Rattle.scheme.specs.Checks.{Check, row, applies, refusal, allOf}
+use Rattle.scheme.specs.Checks.{modulusFails, dimensionFails, plaintextFails, smallFails, lengthFails, wordsFail}
 use Rattle.primus_reduce.specs.Ring.{meant, sizeOf, numberOf}
 use Rattle.primus_reduce.specs.declared.modulus.Modulus.{Modulus}
 use Rattle.primus_lattice.specs.declared.tag.Tally.{Tally}
@@ -21,7 +24,7 @@ sumOf x y = heldTally (addTally (meantTally x) (meantTally y))
 
 -- 17, at one place
 abbrev pub sumFails : Tally → Tally → Bool
-sumFails x y = not (eqb (firstOf (tagRows x y)) 0)
+sumFails x y = applies (tagRows x y) 17
 
 -- the two tallies that meet at place i: that of the total and that of the file s
 abbrev pub placeFails : List ℕ → List ℕ → ℕ → Bool
@@ -39,22 +42,36 @@ addTallies xs s = tabulate (length xs) (placeSum xs s)
 
 -- 19: a file of another kind, or made with another q or t, is unknown to this total
 abbrev pub otherFails : Head → Modulus → ℕ → Bool
-otherFails h m t = not (eqb (h .kind) 5) || (not (eqb (numberOf (h .modulus)) (numberOf m)) || not (eqb (h .«plaintext_modulus») t))
+otherFails h m t =
+    not (eqb (h .kind) 5)
+    || (not (eqb (numberOf (h .modulus)) (numberOf m)) || not (eqb (h .«plaintext_modulus») t))
 
--- 19 for what is no file or not one of this total; then 2, 6, 7, 8, 10, 12, 14 and 17, for the file s
-abbrev pub totalRows : PoolParameters → List ℕ → List ℕ → List ℕ → List Check
-totalRows p s xs tallies =
-    fileRows s
-    ++ row (otherFails (headOf s) (p .modulus) (p .«plaintext_modulus»)) 19
-    ∷ row (modulusFails (meant (p .modulus))) 2
+-- a file s with the head h, added to the words xs and the tallies ts
+abbrev pub totalRows : PoolParameters → Head → List ℕ → List ℕ → List ℕ → List Check
+totalRows p h s xs ts =
+    row (otherFails h (p .modulus) (p .«plaintext_modulus»)) 19
+    ∷ fileRows s
+    ++ row (modulusFails (meant (p .modulus))) 2
     ∷ row (dimensionFails (p .dimension .0)) 6
     ∷ row (plaintextFails (p .«plaintext_modulus»)) 7
     ∷ row (smallFails (p .«plaintext_modulus») (meant (p .modulus))) 8
-    ∷ row (lengthFails (headOf s .n) (p .dimension .0)) 10
-    ∷ row (lengthFails (headOf s .words) (headOf s .count * (p .dimension .0 + 1))) 10
-    ∷ row (lengthFails (length xs) (headOf s .words)) 10
-    ∷ row (lengthFails (length tallies) (headOf s .count)) 12
+    ∷ row (lengthFails (h .n) (p .dimension .0)) 10
+    ∷ row (lengthFails (h .words) (h .count * (p .dimension .0 + 1))) 10
+    ∷ row (lengthFails (length xs) (h .words)) 10
+    ∷ row (lengthFails (length ts) (h .count)) 12
     ∷ row (wordsFail (sizeOf (p .modulus)) xs) 14
-    ∷ row (wordsFail (sizeOf (p .modulus)) (fileWords s (headOf s .words))) 14
-    ∷ row (talliesFail tallies s) 17
+    ∷ row (wordsFail (sizeOf (p .modulus)) (fileWords s (h .words))) 14
+    ∷ row (talliesFail ts s) 17
     ∷ []
+
+-- 19 comes first, since of what is no file of this total nothing can be judged; then the order
+unfoldable pub totalRefusal : PoolParameters → List ℕ → List ℕ → List ℕ → ℕ
+totalRefusal p s xs ts =
+    pick (applies (totalRows p (headOf s) s xs ts) 19) 19 (refusal (totalRows p (headOf s) s xs ts))
+
+-- "A bad file must be refused by its number and touch nothing": words and tallies are sums, or both as they were
+pub record AddsSaved (p : PoolParameters) (s xs ts : List ℕ) (r : ℕ) (words tallies : List ℕ) : Type 0 where
+  pub answered : r ≡ totalRefusal p s xs ts
+  pub adds : words
+      ≡ pick (eqb (totalRefusal p s xs ts) 0) (addWords (sizeOf (p .modulus)) xs (fileWords s (length xs))) xs
+  pub tallied : tallies ≡ pick (eqb (totalRefusal p s xs ts) 0) (addTallies ts s) ts

@@ -1,15 +1,17 @@
 // The words of a total, one ciphertext after the other, and the call that adds a file.
 ghost use mathlib.Core.Path.{_≡_};
-ghost use Prim.Native.Nat.{_<_};
+ghost use mathlib.Core.Bool.{_||_};
+ghost use Prim.Native.Nat.{_+_, _*_, _<_};
 ghost use lib.ListN.{length};
 ghost use Rattle.scheme.specs.Lwe.{addWords};
-ghost use Rattle.scheme.specs.Checks.{firstOf, wordsFail, Answers};
+ghost use Rattle.scheme.specs.Checks.{refusal, lengthFails, wordsFail};
 ghost use Rattle.primus_reduce.specs.Ring.{sizeOf};
-ghost use Rattle.saved.specs.Layout.{fileWords};
-ghost use Rattle.pooling.specs.Total.{otherFails, totalRows, addTallies};
+ghost use Rattle.saved.specs.Layout.{fileFails, fileWords};
+ghost use Rattle.pooling.specs.Total.{otherFails, totalRows, totalRefusal, AddsSaved};
 use crate::tallies;
+use checks::Sizes;
+use checks::Values;
 use primus_lattice::LweDimension;
-use primus_lattice::dimension_refused;
 use primus_reduce::Modulus;
 use saved::Head;
 
@@ -34,8 +36,29 @@ fn is_other(h: Head, modulus: Modulus, plaintext_modulus: u32) -> bool
     h.plaintext_modulus != plaintext_modulus
 }
 
+// 19: no whole file, or none of this total.
+fn foreign(params: PoolParameters, h: Head, bytes: &[u8]) -> bool
+    ensures { λ r. ⌜ r ≡ (fileFails (now (bytes .entry))
+        || otherFails h (params .modulus) (params .«plaintext_modulus»)) ⌝ }
+{
+    let modulus = params.modulus;
+    saved::file_refused(bytes) | is_other(h, modulus, params.plaintext_modulus)
+}
+
+// 10: another n, words that are not `count` ciphertexts, or not as many as the total's.
+fn rows_differ(dimension: LweDimension, h: Head, len: usize) -> bool
+    ensures { λ r. ⌜ r ≡ ((lengthFails len (h .words) || lengthFails (h .words) (h .count * (dimension .0 + 1)))
+        || lengthFails (h .n) (dimension .0)) ⌝ }
+{
+    let words = h.words as usize;
+    let count = h.count as usize;
+    let n = dimension.get();
+    (checks::length_differs(len, words) | checks::ciphertexts_differ(words, count, n))
+        | dimension.differs(h.n)
+}
+
 // 14: one of the first `count` words of a file.
-fn words_refused(q: Modulus, bytes: &[u8], count: usize) -> bool
+fn file_words_refused(q: Modulus, bytes: &[u8], count: usize) -> bool
     ensures { λ r. ⌜ r ≡ wordsFail (sizeOf q) (fileWords (now (bytes .entry)) count) ⌝ }
 {
     let mut any = false;
@@ -49,35 +72,53 @@ fn words_refused(q: Modulus, bytes: &[u8], count: usize) -> bool
     any
 }
 
-// The first number that applies, or 0. Only whole files go on past the first line.
-fn total_refusal(params: PoolParameters, bytes: &[u8], total: &[u32], tallies: &[u64]) -> u32
-    ensures { λ r. ⌜ r ≡ firstOf (totalRows params (now (bytes .entry)) (now (total .entry)) (now (tallies .entry))) ⌝ }
+// 14: a word of the total or of the file.
+fn words_refused(q: Modulus, total: &[u32], bytes: &[u8], h: Head) -> bool
+    ensures { λ r. ⌜ r ≡ (wordsFail (sizeOf q) (fileWords (now (bytes .entry)) (h .words))
+        || wordsFail (sizeOf q) (now (total .entry))) ⌝ }
 {
-    let h = saved::head_of(bytes);
+    file_words_refused(q, bytes, h.words as usize) | checks::words_refused(q, total)
+}
+
+fn judged(params: PoolParameters, h: Head, bytes: &[u8], total: &[u32], tallies: &[u64]) -> u32
+    ensures { λ r. ⌜ r ≡ refusal (totalRows params h (now (bytes .entry)) (now (total .entry))
+        (now (tallies .entry))) ⌝ }
+{
     let modulus = params.modulus;
     let dimension = params.dimension;
     let t = params.plaintext_modulus;
-    let n = dimension.get();
-    let words = h.words as usize;
-    let count = h.count as usize;
-    let r = saved::file_refusal(bytes);
-    let r = checks::refuse(r, is_other(h, modulus, t), 19);
-    let r = checks::refuse(r, checks::modulus_refused(modulus), 2);
-    let r = checks::refuse(r, dimension_refused(n), 6);
-    let r = checks::refuse(r, checks::plaintext_refused(t), 7);
-    let r = checks::refuse(r, checks::small_refused(t, modulus), 8);
-    let r = checks::refuse(r, checks::length_differs(h.n, n), 10);
-    let r = checks::refuse(r, checks::ciphertexts_differ(words, count, n), 10);
-    let r = checks::refuse(r, checks::length_differs(total.len(), words), 10);
-    let r = checks::refuse(r, checks::length_differs(tallies.len(), count), 12);
-    let r = checks::refuse(r, checks::words_refused(modulus, total), 14);
-    let r = checks::refuse(r, words_refused(modulus, bytes, words), 14);
-    checks::refuse(r, tallies::tallies_refused(tallies, bytes), 17)
+    let mut s = Sizes::NONE;
+    s.modulus = checks::modulus_refused(modulus);
+    s.dimension = dimension.refused();
+    s.plaintext = checks::plaintext_refused(t);
+    s.small = checks::small_refused(t, modulus);
+    s.input = rows_differ(dimension, h, total.len());
+    s.lent = checks::length_differs(tallies.len(), h.count as usize);
+    let r = s.first();
+    if r != 0 {
+        return r;
+    }
+    let mut v = Values::NONE;
+    v.word = words_refused(modulus, total, bytes, h);
+    v.tally = tallies::tallies_refused(tallies, bytes);
+    v.first()
+}
+
+// The first number that applies, or 0. Only what is a whole file of this total goes on past 19.
+fn total_refusal(params: PoolParameters, bytes: &[u8], total: &[u32], tallies: &[u64]) -> u32
+    ensures { λ r. ⌜ r ≡ totalRefusal params (now (bytes .entry)) (now (total .entry)) (now (tallies .entry)) ⌝ }
+{
+    let h = saved::head_of(bytes);
+    if foreign(params, h, bytes) {
+        return 19;
+    }
+    judged(params, h, bytes, total, tallies)
 }
 
 fn add_words(total: &mut [u32], bytes: &[u8], modulus: Modulus)
     requires { ⌜ 0 < sizeOf modulus ⌝ }
-    ensures { λ _. ⌜ now (total .exit) ≡ addWords (sizeOf modulus) (now (total .entry)) (fileWords (now (bytes .entry)) (length (now (total .entry)))) ⌝ }
+    ensures { λ _. ⌜ now (total .exit) ≡ addWords (sizeOf modulus) (now (total .entry))
+        (fileWords (now (bytes .entry)) (length (now (total .entry)))) ⌝ }
 {
     let mut i = 0;
     while i < total.len() {
@@ -93,12 +134,12 @@ pub fn add_saved(
     total: &mut [u32],
     tallies: &mut [u64],
 ) -> u32
-    ensures words { λ r. ⌜ Answers (firstOf (totalRows params (now (bytes .entry)) (now (total .entry)) (now (tallies .entry)))) (addWords (sizeOf (params .modulus)) (now (total .entry)) (fileWords (now (bytes .entry)) (length (now (total .entry))))) (now (total .entry)) r (now (total .exit)) ⌝ }
-    ensures tallies { λ r. ⌜ Answers (firstOf (totalRows params (now (bytes .entry)) (now (total .entry)) (now (tallies .entry)))) (addTallies (now (tallies .entry)) (now (bytes .entry))) (now (tallies .entry)) r (now (tallies .exit)) ⌝ }
+    ensures { λ r. ⌜ AddsSaved params (now (bytes .entry)) (now (total .entry)) (now (tallies .entry)) r
+        (now (total .exit)) (now (tallies .exit)) ⌝ }
 {
-    let r = total_refusal(params, bytes, total, tallies);
-    if r != 0 {
-        return r;
+    let refusal = total_refusal(params, bytes, total, tallies);
+    if refusal != 0 {
+        return refusal;
     }
     let modulus = params.modulus;
     add_words(total, bytes, modulus);

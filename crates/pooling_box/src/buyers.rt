@@ -1,34 +1,32 @@
 // The buyers: they have the group's secret, and see only the switched total.
-use crate::BOUND;
+use crate::ERROR_LIMIT;
 use crate::PLAINTEXT_MODULUS;
-use crate::files;
 use crate::reasons;
 use primus_lattice::LweDimension;
 use primus_lattice::LweDimensionAnswer;
 use primus_lwe::LweParameters;
-use primus_lwe::decrypt_message_batch_to;
+use primus_lwe_batch::decrypt_message_batch_to;
 use primus_reduce::Modulus;
 use saved::Head;
 
 fn print_total(place: u64, count: u32) {
-    files::print(b"  casting ", place);
-    files::print(b": ", count as u64);
-    files::write(b"\n");
+    programs::print(b"  casting ", place);
+    programs::say(b": ", count as u64);
 }
 
 fn print_totals(counts: [u32; 4]) {
-    files::write(b"the buyers open it with the group's secret:\n");
+    programs::write(b"the buyers open it with the group's secret:\n");
     print_total(1, counts[0]);
     print_total(2, counts[1]);
     print_total(3, counts[2]);
     print_total(4, counts[3]);
-    files::write(
+    programs::write(
         b"a switched ciphertext has no tally, so the opened total itself is never marked good:\n",
     );
-    files::write(
+    programs::write(
         b"it rests on the marks above, which count one rounding a casting and the errors that\n",
     );
-    files::write(b"the shops declare, and on the bound of the switching error\n");
+    programs::write(b"the shops declare, and on the bound of the switching error\n");
 }
 
 fn with_dimension(dimension: LweDimension, modulus: Modulus, secret: &[u32], sent: &[u32]) -> u32 {
@@ -36,7 +34,7 @@ fn with_dimension(dimension: LweDimension, modulus: Modulus, secret: &[u32], sen
         dimension,
         modulus,
         plaintext_modulus: PLAINTEXT_MODULUS,
-        bound: BOUND,
+        error_limit: ERROR_LIMIT,
     };
     let mut counts = [0u32; 4];
     let r = decrypt_message_batch_to(params, secret, sent, &mut counts);
@@ -60,8 +58,8 @@ fn with_secret(h: Head, secret: &[u32], sent: &[u32], words: usize) -> u32 {
         LweDimensionAnswer::Accepted(dimension) => with_dimension(
             dimension,
             modulus,
-            &secret[..n],
-            &sent[..words],
+            &secret[0..n],
+            &sent[0..words],
         ),
         LweDimensionAnswer::Refused(r) => r,
     }
@@ -75,7 +73,7 @@ fn is_other(h: Head, modulus: Modulus) -> bool {
 
 pub(crate) fn open(sent: &[u32], words: usize, modulus: Modulus) {
     let mut secret = [0u32; 16368];
-    let l = files::load(b"group_secret", &mut secret);
+    let l = saved_files::load(b"group_secret", &mut secret);
     let h = l.head;
     if l.refusal != 0 || is_other(h, modulus) {
         reasons::told_file(b"group_secret", 19, l.refusal == 0);

@@ -1,14 +1,13 @@
 // The main job of a pooling box. Shops send rows of encrypted counts; the box adds the rows that are in order and switches the total to the
 // buying group's key; the buyers open it. The box has no secret key: only `buyers` reads one.
 mod buyers;
-mod files;
 mod reasons;
 mod station;
 
 // What the shops and the buyers agreed on: counts are taken modulo t, errors lie within ±E, and a row has a count for each of four castings.
 pub(crate) const PLAINTEXT_MODULUS: u32 = 1024;
 
-pub(crate) const BOUND: u32 = 3;
+pub(crate) const ERROR_LIMIT: u32 = 3;
 
 pub(crate) const PLACES: usize = 4;
 

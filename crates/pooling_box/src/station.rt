@@ -1,15 +1,14 @@
 // The box: it adds the shops' rows and switches the total. It holds the switching key and the files that came in, and no secret.
 use crate::PLACES;
 use crate::PLAINTEXT_MODULUS;
-use crate::files;
 use crate::reasons;
-use key_switch::LweKeySwitchingParameters;
-use key_switch::LweKeySwitchingParametersAnswer;
 use key_switch::key_switch_batch_to;
-use key_switch::parameters_for;
+use key_switch_key::LweKeySwitchingParameters;
+use key_switch_key::LweKeySwitchingParametersAnswer;
 use pooling::PoolParameters;
 use pooling::add_saved;
-use primus_decompose::levels_for;
+use primus_decompose::ApproxSignedBasis;
+use primus_lattice::LweDimension;
 use primus_lattice::LweTag;
 use primus_lattice::MarkAnswer;
 use primus_lattice::Tally;
@@ -28,9 +27,9 @@ fn add_shop(
     total: &mut [u32],
     tallies: &mut [u64],
 ) -> u32 {
-    let len = files::read(name, bytes);
-    let r = add_saved(params, &bytes[..len], total, tallies);
-    reasons::told_file(name, r, saved::file_refusal(&bytes[..len]) == 0);
+    let len = programs::read(name, bytes);
+    let r = add_saved(params, &bytes[0..len], total, tallies);
+    reasons::told_file(name, r, saved::file_refusal(&bytes[0..len]) == 0);
     if r == 0 {
         return 1;
     }
@@ -55,10 +54,10 @@ fn add_shops(
 
 // Document 01's mark of one place. It counts one rounding, however many rows were added.
 fn print_mark(place: u64, tally: Tally, modulus: Modulus) {
-    files::print(b"  casting ", place);
+    programs::print(b"  casting ", place);
     match tally {
-        Tally::Absent => files::write(b": no tally"),
-        Tally::Present(a) => files::print(b": tally ", a),
+        Tally::Absent => programs::write(b": no tally"),
+        Tally::Present(a) => programs::print(b": tally ", a),
     }
     let tag = LweTag::from_tally(tally);
     match tag.is_good(modulus, PLAINTEXT_MODULUS) {
@@ -69,10 +68,10 @@ fn print_mark(place: u64, tally: Tally, modulus: Modulus) {
 
 fn print_good(good: bool) {
     if good {
-        files::write(b", marked good\n");
+        programs::write(b", marked good\n");
         return;
     }
-    files::write(b", not marked good\n");
+    programs::write(b", not marked good\n");
 }
 
 fn print_marks(tallies: [u64; 4], modulus: Modulus) {
@@ -86,12 +85,11 @@ fn print_marks(tallies: [u64; 4], modulus: Modulus) {
 fn collect(pool: PoolParameters, modulus: Modulus, total: &mut [u32]) -> u32 {
     let mut bytes = [0u8; 65536];
     let mut tallies = [0u64; 4];
-    files::write(b"the box adds the shops' rows of four encrypted counts:\n");
+    programs::write(b"the box adds the shops' rows of four encrypted counts:\n");
     let rows = add_shops(pool, &mut bytes, total, &mut tallies);
-    files::print(b"rows added: ", rows as u64);
-    files::write(b"\n");
+    programs::say(b"rows added: ", rows as u64);
     if rows != 0 {
-        files::write(b"the total before the switch:\n");
+        programs::write(b"the total before the switch:\n");
         print_marks(tallies, modulus);
     }
     rows
@@ -112,10 +110,10 @@ fn serve(
         plaintext_modulus: PLAINTEXT_MODULUS,
     };
     if collect(pool, modulus, total) == 0 {
-        files::write(b"no row was accepted, so there is nothing to send\n");
+        programs::write(b"no row was accepted, so there is nothing to send\n");
         return 0;
     }
-    files::write(b"the box switches the total to the group's key and sends it on\n");
+    programs::write(b"the box switches the total to the group's key and sends it on\n");
     let r = key_switch_batch_to(params, key, total, sent);
     if r != 0 {
         reasons::told(b"the switch", r);
@@ -150,9 +148,9 @@ fn with_key(
     serve(
         params,
         modulus,
-        &key[..words],
-        &mut total[..width],
-        &mut sent[..room],
+        &key[0..words],
+        &mut total[0..width],
+        &mut sent[0..room],
     )
 }
 
@@ -161,7 +159,11 @@ fn parameters(h: Head) -> LweKeySwitchingParametersAnswer {
     if h.kind != 3 {
         return LweKeySwitchingParametersAnswer::Refused(19);
     }
-    parameters_for(modulus, h.base_log, levels_for(h.levels), h.n, h.m)
+    LweKeySwitchingParameters::try_new(
+        ApproxSignedBasis::given(modulus, h.base_log, h.levels),
+        LweDimension::given(h.n),
+        LweDimension::given(h.m),
+    )
 }
 
 // What the box sends on: so many words, modulo q.
@@ -191,7 +193,7 @@ fn with_file(h: Head, key: &[u32], sent: &mut [u32]) -> usize {
 // The switched total goes into `sent`.
 pub(crate) fn run(sent: &mut [u32]) -> Sent {
     let mut key = [0u32; 16368];
-    let l = files::load(b"switching_key", &mut key);
+    let l = saved_files::load(b"switching_key", &mut key);
     let h = l.head;
     let modulus = h.modulus;
     if l.refusal != 0 {

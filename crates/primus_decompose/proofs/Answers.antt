@@ -1,99 +1,86 @@
 -- What refusals leave, and how they make answers.
 -- Assumes nothing.
-use mathlib.Core.Path.{_≡_, sym, ap, ap₂, _∙_}
-use mathlib.Core.Bool.{Bool, true, false}
-use mathlib.Core.List.{List, [], _∷_}
-use Prim.Native.Nat.{ℕ, _*_, _/_, _%_, _^_, _≤_, _<_}
-use native.Mathlib.Nat.{div-zero}
+use mathlib.Core.Path.{_≡_, refl, sym, ap, ap₂, subst, _∙_}
+use mathlib.Core.Bool.{Bool, true, false, not, _&&_}
+use mathlib.Core.List.{List, [], _∷_, _++_}
+use Prim.Native.Nat.{ℕ, _+_, _*_, _<_}
+use native.Mathlib.Nat.{mul-one, zero-add}
 use native.Mathlib.Omega.{arith}
 use lib.ListN.{length, getD}
-use lib.Dec.{ltb, eqb}
-use borrow.Author.Tests.{lt-ltb, eq-eqb, ne-eqb}
+use lib.Dec.{ltb, leb, eqb}
+use borrow.Author.Tests.{lt-leb, le-leb, ltb-true, ltb-false}
 use Rattle.scheme.specs.Numbers.{pick}
-use Rattle.scheme.specs.Basis.{Accepted}
-use Rattle.scheme.proofs.Checks.{passed, passed-append, length-ok, word-ok, words-ok}
-use Rattle.primus_reduce.proofs.Laws.{one-shl}
-use Rattle.scheme.specs.Checks.{row, firstOf, basisRefusal, lengthFails, wordFails, wordsFail}
-use Rattle.primus_reduce.specs.Ring.{meant, sizeOf}
-use Rattle.primus_reduce.specs.declared.modulus.Modulus.{Modulus}
-use Rattle.primus_decompose.specs.declared.error.ApproxSignedBasisAnswer.the-variants as A
-use Rattle.primus_decompose.specs.declared.parameters.DecompositionBaseLog.{DecompositionBaseLog}
-use Rattle.primus_decompose.specs.declared.parameters.DecompositionLevelCount.{DecompositionLevelCount}
-use Rattle.primus_decompose.specs.declared.parameters.RetainedLevels.{RetainedLevels}
-use Rattle.primus_decompose.specs.Answers.{levelCount, tried, basisAnswer, basis, rows, wordRefusal, decomposeRefusal, sliceRefusal}
+use Rattle.scheme.specs.Basis.{Basis}
+use Rattle.scheme.specs.Checks.{row, refusal, allOf, lengthFails, wordsFail, Writes}
+use Rattle.scheme.proofs.Checks.{length-ok, word-ok, words-ok}
+use Rattle.scheme.proofs.Order.{passed, passed-part, given, writes-by}
+use Rattle.scheme.proofs.Lists.{is-tabulate, length-runs, getD-runs}
+use Rattle.scheme.specs.Digits.{digit, stored, digitsOf, runsOf}
+use Rattle.primus_reduce.specs.Ring.{sizeOf}
+use Rattle.gadget_constants.specs.declared.prepared.PreparedBasis.{PreparedBasis}
+use Rattle.gadget_constants.specs.Prepared.{Ready, basisIn}
+use Rattle.gadget_constants.specs.Word.{Words}
 use Rattle.primus_decompose.specs.declared.primitive.basis.ApproxSignedBasis.{ApproxSignedBasis}
-use Rattle.primus_decompose.proofs.Windows.{wide}
-
--- ---- answers
-
--- a test that passed or failed picks the answer
-pub picked : {A : Type 0} (b : Bool) (x y : A) → b ≡ true → x ≡ pick b x y
-picked b x y e = rw e
-
-pub passed-over : {A : Type 0} (b : Bool) (x y : A) → b ≡ false → y ≡ pick b x y
-passed-over b x y e = rw e
-
--- a refusal r is answered, or there is none
-pub answer-refused : {A : Type 0} (r : ℕ) (x y : A) → (r ≡ 0 → ⊥) → y ≡ pick (eqb r 0) x y
-answer-refused r x y h = rw (ne-eqb r 0 h)
-
-pub answer-given : {A : Type 0} (r : ℕ) (x y : A) → r ≡ 0 → x ≡ pick (eqb r 0) x y
-answer-given r x y h = rw (eq-eqb r 0 h)
-
--- ---- a call that judges, prepares and answers
-pub answered : {A B : Type 0} (f : B → A) (r : ℕ) (x y : B) (z : A) → x ≡ y → r ≡ 0 → f x ≡ pick (eqb r 0) (f y) z
-answered f r x y z e h = ap f e ∙ answer-given r (f y) z h
-
--- ---- the checks of a basis
-
-pub base-over : (log q : ℕ) → q < 2 ^ 32 → 32 ≤ log → true ≡ ltb q (2 ^ log)
-base-over log q h k = sym (lt-ltb q (2 ^ log) (wide 32 log q h k))
-
-pub base-test : (log q : ℕ) → log < 32 → ltb q ((1 * 2 ^ log) % 2 ^ 32) ≡ ltb q (2 ^ log)
-base-test log q h = ap (ltb q) (one-shl 32 log h)
-
-pub full-none : (k log : ℕ) → log ≡ 0 → 0 ≡ k / log
-full-none k log e = sym (ap (λ n. k / n) e ∙ div-zero k)
-
--- ---- try_new
-module _ (m : Modulus) (b : DecompositionBaseLog) (l : RetainedLevels) (g n r : ℕ) (eg : g ≡ b .0) (en : n ≡ levelCount m g l)
-    (er : r ≡ basisRefusal 32 (meant m) g n) where
-  count-is : n ≡ levelCount m (b .0) l
-  count-is = en ∙ ap (λ x. levelCount m x l) eg
-
-  tried-is : tried r m b n ≡ basisAnswer m b l
-  tried-is =
-      ap₂ (λ x y. tried x m b y) (er ∙ ap₂ (λ x y. basisRefusal 32 (meant m) x y) eg count-is) count-is
-
-  pub tried-refused : (r ≡ 0 → ⊥) → A.Refused r ≡ basisAnswer m b l
-  tried-refused h = answer-refused r _ _ h ∙ tried-is
-
-  pub tried-given : (k : DecompositionLevelCount) → k .0 ≡ n → r ≡ 0
-      → A.Accepted (record { modulus = m; «log_basis» = b; «level_count» = k }) ≡ basisAnswer m b l
-  tried-given k e h =
-      ap (λ x. A.Accepted (record { modulus = m; «log_basis» = b; «level_count» = record { 0 = x } })) e ∙ answer-given r _ _ h ∙ tried-is
+use Rattle.primus_decompose.specs.Answers.{basis, rows, preparedBy, wordRows, digitRows, Decomposes, sliceRows, DecomposesSlice}
 
 -- ---- what a passed refusal leaves
 
-module _ (b : ApproxSignedBasis) where
-  pub word-passed : (a : ℕ) → wordRefusal b a ≡ 0 → (firstOf (rows b) ≡ 0) × (a < sizeOf (b .modulus))
-  word-passed a e =
-      let p = passed-append (rows b) (row (wordFails (sizeOf (b .modulus)) a) 14 ∷ []) tt e in
-      (p .0, word-ok (sizeOf (b .modulus)) a (passed (row (wordFails (sizeOf (b .modulus)) a) 14 ∷ []) tt (p .1) .0))
+-- what a call on one word may go on with: a basis that is ready, and a word below q
+pub record Passed (b : ApproxSignedBasis) (a : ℕ) : Type 1 where
+  pub judged : refusal (rows b) ≡ 0
+  pub ready : {p : PreparedBasis} → Ready p × (p ≡ preparedBy b) → Ready p × (a < sizeOf (p .modulus))
+  pub answer : {A B : Type 0} (say : B → A) (f : Basis → B) (y : A) {p : PreparedBasis} {v : B} → Ready p × (p ≡ preparedBy b) → v ≡ f (basisIn p)
+      → say v ≡ pick (eqb (refusal (wordRows b a)) 0) (say (f (basis b))) y
 
--- the calls that write digits
-module _ (b : ApproxSignedBasis) where
-  pub digits-passed : (a n : ℕ) → decomposeRefusal b a n ≡ 0 → (firstOf (rows b) ≡ 0) × (n ≡ b .«level_count» .0) × (a < sizeOf (b .modulus))
-  digits-passed a n e =
-      let ds = row (lengthFails n (b .«level_count» .0)) 11 ∷ row (wordFails (sizeOf (b .modulus)) a) 14 ∷ [] in
-      let p = passed-append (rows b) ds tt e in
-      let q = passed ds tt (p .1) in
-      (p .0, length-ok n (b .«level_count» .0) (q .0), word-ok (sizeOf (b .modulus)) a (q .1 .0))
+pub passes : {b : ApproxSignedBasis} {a r : ℕ} → r ≡ refusal (wordRows b a) → r ≡ 0 → Passed b a
+passes {b} {a} e z =
+    let n = sym e ∙ z in
+    record {
+      judged = passed-part (rows b) _ n;
+      ready = λ h. (h .0, rw (h .1) (word-ok (sizeOf (b .modulus)) a (passed (wordRows b a) n 14 tt)));
+      answer = λ say f y h g. given _ _ _ _ n (ap say (g ∙ ap (λ p. f (basisIn p)) (h .1)));
+    }
 
-  pub slice-passed : (xs : List ℕ) (n : ℕ) → sliceRefusal b xs n ≡ 0
-      → (firstOf (rows b) ≡ 0) × (n ≡ b .«level_count» .0 * length xs) × ((i : ℕ) → i < length xs → getD xs i 0 < sizeOf (b .modulus))
-  slice-passed xs n e =
-      let ds = row (lengthFails n (b .«level_count» .0 * length xs)) 11 ∷ row (wordsFail (sizeOf (b .modulus)) xs) 14 ∷ [] in
-      let p = passed-append (rows b) ds tt e in
-      let q = passed ds tt (p .1) in
-      (p .0, length-ok n (b .«level_count» .0 * length xs) (q .0), words-ok (sizeOf (b .modulus)) xs (q .1 .0))
+-- what the slice call may go on with
+pub record Decomposable (b : ApproxSignedBasis) (xs : List ℕ) (room : ℕ) : Type 0 where
+  pub judged : refusal (rows b) ≡ 0
+  pub sized : room ≡ b .«level_count» .0 * length xs
+  pub below : Words (sizeOf (b .modulus)) xs
+
+pub decomposable : {b : ApproxSignedBasis} {xs : List ℕ} {room r : ℕ} → r ≡ refusal (sliceRows b xs room) → r ≡ 0 → Decomposable b xs room
+decomposable {b} {xs} {room} e z =
+    let n = sym e ∙ z in
+    let no = passed (sliceRows b xs room) n in
+    record {
+      judged = passed-part (rows b) _ n;
+      sized = length-ok room (b .«level_count» .0 * length xs) (no 11 tt);
+      below = words-ok (sizeOf (b .modulus)) xs (no 14 tt);
+    }
+
+-- one word is a slice of one
+module _ (b : ApproxSignedBasis) (a : ℕ) where
+  below-is : (q : ℕ) → not (ltb a q && true) ≡ leb q a
+  below-is q = go (ltb a q) refl
+    where
+      go : (x : Bool) → ltb a q ≡ x → not (x && true) ≡ leb q a
+      go true e = sym (lt-leb q a (ltb-true a q e))
+      go false e = sym (le-leb q a (ltb-false a q e))
+
+  one-rows : (room : ℕ) → sliceRows b (a ∷ []) room ≡ digitRows b a room
+  unfolding wordsFail allOf
+  one-rows room =
+      ap₂ (λ n f. rows b ++ row (lengthFails room n) 11 ∷ row f 14 ∷ []) (mul-one (b .«level_count» .0)) (below-is (sizeOf (b .modulus)))
+
+  one-run : runsOf (basis b) (a ∷ []) ≡ digitsOf (basis b) a
+  one-run =
+      is-tabulate (basis b .levels) _ (runsOf (basis b) (a ∷ []))
+      (length-runs (basis b) (a ∷ []) 0 (basis b .levels) ∙ mul-one (basis b .levels))
+      (λ j h. ap (λ n. getD (runsOf (basis b) (a ∷ [])) n 0) (plain j) ∙ getD-runs (basis b) (a ∷ []) 0 (basis b .levels) j 0 h (omega arith)
+      ∙ ap (λ n. stored (basis b .modulus) (digit (basis b) a n)) (zero-add j))
+    where
+      plain : (j : ℕ) → j ≡ j * 1 + 0
+      plain j = omega arith
+
+  pub one-word : {before after : List ℕ} {r : ℕ} → DecomposesSlice b (a ∷ []) before r after → Decomposes b a before r after
+  one-word {before} {after} {r} d =
+      record { writes = subst (λ rs. Writes rs (digitsOf (basis b) a) before r after) (one-rows (length before)) (writes-by (λ z. one-run) (d .writes)) }

@@ -1,25 +1,14 @@
 // The answers of the calls. `Refused` holds the first number of document 01 that applies:
-// 1 base log below 2 or above 31, 2 explicit modulus below 4, 3 explicit modulus below B, 4 not one whole level fits k,
-// 5 level count 0 or above the full count, 14 a word is not below q.
-use crate::parameters::DecompositionBaseLog;
+// 1 base log below 2 or above 31, 2 explicit modulus below 4, 3 explicit modulus below B,
+// 4 not one whole level fits k, 5 level count 0 or above the full count, 14 a word is not below q.
 use crate::primitive::ApproxSignedBasis;
-use crate::primitive::PreparedBasis;
-use crate::primitive::Reading;
-use crate::primitive::SignedDecomposer;
-use crate::primitive::ValueCarry;
-
-pub enum DecompositionBaseLogAnswer {
-    Accepted(DecompositionBaseLog),
-    Refused(u32),
-}
+use gadget_constants::PreparedBasis;
+use gadget_constants::Reading;
+use gadget_constants::ValueCarry;
+use gadget_digits::SignedDecomposer;
 
 pub enum ApproxSignedBasisAnswer {
     Accepted(ApproxSignedBasis),
-    Refused(u32),
-}
-
-pub enum WordAnswer {
-    Word(u32),
     Refused(u32),
 }
 

@@ -1,30 +1,23 @@
-// A basis from plain numbers, as the program and the C service have them.
+// A basis from plain numbers.
 ghost use mathlib.Core.Path.{_≡_};
-ghost use Rattle.primus_decompose.specs.Answers.{levelsFor, made};
+ghost use Rattle.gadget_parameters.specs.Kinds.{levelsFor};
+ghost use Rattle.primus_decompose.specs.Answers.{made};
 use crate::error::ApproxSignedBasisAnswer;
-use crate::error::DecompositionBaseLogAnswer;
-use crate::parameters::DecompositionBaseLog;
-use crate::parameters::DecompositionLevelCount;
-use crate::parameters::RetainedLevels;
 use crate::primitive::ApproxSignedBasis;
+use gadget_parameters::DecompositionBaseLog;
+use gadget_parameters::RetainedLevels;
 use primus_reduce::Modulus;
 
 // 0 is left open.
 pub fn levels_for(n: u32) -> RetainedLevels
     ensures { λ r. ⌜ r ≡ levelsFor n ⌝ }
 {
-    if n == 0 {
-        return RetainedLevels::Full;
-    }
-    RetainedLevels::Count(DecompositionLevelCount::new(n as usize))
+    RetainedLevels::given(n)
 }
 
-// Check 1 is the base log's own. Refuses by 1 to 5.
+// Refuses by 1 to 5.
 pub fn basis_for(modulus: Modulus, log: u32, levels: RetainedLevels) -> ApproxSignedBasisAnswer
     ensures { λ r. ⌜ r ≡ made modulus log levels ⌝ }
 {
-    match DecompositionBaseLog::try_new(log) {
-        DecompositionBaseLogAnswer::Accepted(b) => ApproxSignedBasis::try_new(modulus, b, levels),
-        DecompositionBaseLogAnswer::Refused(n) => ApproxSignedBasisAnswer::Refused(n),
-    }
+    ApproxSignedBasis::try_new(modulus, DecompositionBaseLog::given(log), levels)
 }

@@ -1,68 +1,12 @@
-// The units of a decomposition: distinct kinds, as in the Rust.
+// A decomposition before it is bound to a modulus.
 ghost use mathlib.Core.Path.{_≡_};
-ghost use Rattle.scheme.specs.Checks.{baseLogFails};
-ghost use Rattle.primus_decompose.specs.Answers.{baseLogAnswer, basisAnswer};
+ghost use Rattle.primus_decompose.specs.Answers.{basisAnswer};
 use crate::error::ApproxSignedBasisAnswer;
-use crate::error::DecompositionBaseLogAnswer;
 use crate::primitive::ApproxSignedBasis;
+use gadget_parameters::DecompositionBaseLog;
+use gadget_parameters::RetainedLevels;
 use primus_reduce::Modulus;
 
-// Base-2 logarithm of the gadget radix B.
-pub struct DecompositionBaseLog(u32);
-
-// 1: outside the limits of the kind.
-pub(crate) fn base_log_refused(log_basis: u32) -> bool
-    ensures { λ r. ⌜ r ≡ baseLogFails 32 «log_basis» ⌝ }
-{
-    log_basis < DecompositionBaseLog::MIN || DecompositionBaseLog::MAX < log_basis
-}
-
-impl DecompositionBaseLog {
-    pub const MIN: u32 = 2;
-
-    pub const MAX: u32 = 31;
-
-    // Refuses by 1.
-    pub fn try_new(log_basis: u32) -> DecompositionBaseLogAnswer
-        ensures { λ r. ⌜ r ≡ baseLogAnswer «log_basis» ⌝ }
-    {
-        if base_log_refused(log_basis) {
-            return DecompositionBaseLogAnswer::Refused(1);
-        }
-        DecompositionBaseLogAnswer::Accepted(DecompositionBaseLog(log_basis))
-    }
-
-    pub fn get(self) -> u32
-        ensures { λ r. ⌜ r ≡ self .0 ⌝ }
-    {
-        self.0
-    }
-}
-
-// Number of retained levels L. Any number is one: the basis judges it, after the modulus.
-pub struct DecompositionLevelCount(usize);
-
-impl DecompositionLevelCount {
-    pub fn new(level_count: usize) -> DecompositionLevelCount
-        ensures { λ r. ⌜ r .0 ≡ «level_count» ⌝ }
-    {
-        DecompositionLevelCount(level_count)
-    }
-
-    pub fn get(self) -> usize
-        ensures { λ r. ⌜ r ≡ self .0 ⌝ }
-    {
-        self.0
-    }
-}
-
-// The Rust's Option: left open, all whole levels are retained.
-pub enum RetainedLevels {
-    Full,
-    Count(DecompositionLevelCount),
-}
-
-// A decomposition before it is bound to a modulus.
 pub struct DecompositionConfig {
     pub log_basis: DecompositionBaseLog,
     pub level_count: RetainedLevels,

@@ -1,6 +1,6 @@
 -- Laws of the leaves and of the calls.
 -- Assumes nothing.
-use mathlib.Core.Path.{_≡_, refl, sym, ap, _∙_}
+use mathlib.Core.Path.{_≡_, refl, sym, ap, subst, _∙_}
 use mathlib.Core.Bool.{Bool, true, false, _||_}
 use mathlib.Core.List.{List}
 use Prim.Native.Nat.{ℕ, zero, suc, _+_, _-_, _*_, _%_, _^_, _≤_, _<_}
@@ -20,7 +20,9 @@ use Rattle.primus_reduce.specs.Ring.{meant, sizeOf, modulo}
 use Rattle.primus_reduce.specs.declared.modulus.Modulus.{Modulus}
 use Rattle.primus_lattice.specs.declared.tag.Tally.{Tally}
 use Rattle.primus_lattice.specs.declared.tag.Tally.the-variants.{Absent, Present}
-use Rattle.primus_lattice.specs.Answers.{meantTally, heldTally, cap, tagRows, bodyFails, addRows, extractRows}
+use Rattle.primus_lattice.specs.declared.dimension.LweDimension.{LweDimension}
+use Rattle.primus_lattice.specs.Answers.{meantTally, heldTally, cap, tagRows, bodyFails, addRows, Adds}
+use Rattle.primus_lattice.specs.Answers.{extractRows, Extracts}
 
 -- ---- tallies
 
@@ -88,6 +90,18 @@ addable m n x y e =
     let no = passed (addRows m n x y) e in
     let lengths = neither (lengthFails (length x) (n + 1)) (lengthFails (length y) (n + 1)) (no 10 tt) in
     (omega (arith, modulus-ok 32 (meant m) (omega arith) (no 2 tt)), length-ok _ _ (lengths .0) ∙ sym (length-ok _ _ (lengths .1)))
+
+-- the promises, of other names of modulus and dimension
+pub adds-of : {m k : Modulus} → m ≡ k → {n o : LweDimension} → n ≡ o → {x y after : List ℕ} {r : ℕ}
+    → Adds m n x y r after → Adds k o x y r after
+adds-of {m} {k} em {n} {o} en {x} {y} {after} {r} h =
+    subst (λ (z : LweDimension). Adds k z x y r after) en (subst (λ (z : Modulus). Adds z n x y r after) em h)
+
+pub extracts-of : {m k : Modulus} → m ≡ k → {n o : LweDimension} → n ≡ o → {x before after : List ℕ} {i r : ℕ}
+    → Extracts m n x i before r after → Extracts k o x i before r after
+extracts-of {m} {k} em {n} {o} en {x} {before} {after} {i} {r} h =
+    subst (λ (z : LweDimension). Extracts k z x i before r after) en
+    (subst (λ (z : Modulus). Extracts z n x i before r after) em h)
 
 -- ---- what the checks of a sample leave
 

@@ -29,6 +29,10 @@ abbrev pub dimensionAnswer : ℕ → LweDimensionAnswer
 dimensionAnswer n =
     pick (eqb (refusal (dimensionRows n)) 0) (D.Accepted (record { 0 = n })) (D.Refused (refusal (dimensionRows n)))
 
+-- a dimension of any number
+abbrev pub given : ℕ → LweDimension
+given n = record { 0 = n }
+
 -- the tally of document 01, and the value that holds one
 abbrev pub meantTally : Tally → S.Tally
 meantTally Absent = S.Absent

@@ -3,7 +3,7 @@ ghost use mathlib.Core.Path.{_≡_};
 ghost use mathlib.Core.Bool.{_||_};
 ghost use Prim.Native.Nat.{_+_};
 ghost use Rattle.scheme.specs.Checks.{dimensionFails, lengthFails};
-ghost use Rattle.primus_lattice.specs.Answers.{dimensionAnswer};
+ghost use Rattle.primus_lattice.specs.Answers.{dimensionAnswer, given};
 use checks::Sizes;
 
 // n, the number of mask words.
@@ -42,7 +42,7 @@ impl LweDimension {
 
     // Any number, as a caller gives it: the calls judge it by 6, in its place in the order.
     pub fn given(dimension: usize) -> LweDimension
-        ensures { λ r. ⌜ r .0 ≡ dimension ⌝ }
+        ensures { λ r. ⌜ r ≡ given dimension ⌝ }
     {
         LweDimension(dimension)
     }

@@ -9,7 +9,7 @@ use lib.ListN.{length, getD, take, drop}
 use Rattle.scheme.specs.Numbers.{pick}
 use Rattle.scheme.specs.Lwe.{Key, secretOf, keyLength, encrypted, phaseOf}
 use Rattle.scheme.specs.Codec.{decode}
-use Rattle.scheme.specs.Checks.{Check, row, refusal, Writes, modulusFails, dimensionFails, plaintextFails, smallFails, lengthFails, boundFails, wordFails, wordsFail, keyFails, errorsFail, messageFails}
+use Rattle.scheme.specs.Checks.{Check, row, refusal, Writes, modulusFails, dimensionFails, plaintextFails, smallFails, lengthFails, errorLimitFails, wordFails, wordsFail, keyFails, errorsFail, messageFails}
 use Rattle.primus_reduce.specs.Ring.{meant, sizeOf}
 use Rattle.primus_encoding.specs.declared.PlaintextEmbedding.{PlaintextEmbedding}
 use Rattle.primus_encoding.specs.Answers.{encodeWord}
@@ -27,7 +27,7 @@ abbrev pub encryptionParametersRows : LweEncryptionParameters → List Check
 encryptionParametersRows P =
     row (modulusFails (meant (P .modulus))) 2
     ∷ row (dimensionFails (P .dimension .0)) 6
-    ∷ row (boundFails (sizeOf (P .modulus)) (P .«error_limit»)) 13
+    ∷ row (errorLimitFails (sizeOf (P .modulus)) (P .«error_limit»)) 13
     ∷ []
 
 abbrev pub encryptionParametersAnswer : LweEncryptionParameters → LweEncryptionParametersAnswer
@@ -41,7 +41,7 @@ parametersRows P =
     ∷ row (dimensionFails (P .dimension .0)) 6
     ∷ row (plaintextFails (P .«plaintext_modulus»)) 7
     ∷ row (smallFails (P .«plaintext_modulus») (meant (P .modulus))) 8
-    ∷ row (boundFails (sizeOf (P .modulus)) (P .«error_limit»)) 13
+    ∷ row (errorLimitFails (sizeOf (P .modulus)) (P .«error_limit»)) 13
     ∷ []
 
 abbrev pub parametersAnswer : LweParameters → LweParametersAnswer

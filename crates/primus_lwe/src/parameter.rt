@@ -42,7 +42,7 @@ impl LweEncryptionParameters {
         let mut s = Sizes::NONE;
         s.modulus = checks::modulus_refused(modulus);
         s.dimension = dimension.refused();
-        s.error_limit = checks::bound_refused(self.error_limit, modulus);
+        s.error_limit = checks::error_limit_refused(self.error_limit, modulus);
         s
     }
 
@@ -81,7 +81,7 @@ impl LweParameters {
         s.dimension = dimension.refused();
         s.plaintext = checks::plaintext_refused(t);
         s.small = checks::small_refused(t, modulus);
-        s.error_limit = checks::bound_refused(self.error_limit, modulus);
+        s.error_limit = checks::error_limit_refused(self.error_limit, modulus);
         s
     }
 

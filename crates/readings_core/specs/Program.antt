@@ -1,5 +1,5 @@
 -- "The program `readings`": what a command answers, and what it leaves for the next.
-use mathlib.Core.Bool.{Bool, true, false}
+use mathlib.Core.Bool.{true, false}
 use mathlib.Core.List.{List}
 use Prim.Native.Nat.{ℕ}
 use lib.Dec.{leb, eqb}
@@ -9,16 +9,11 @@ use Rattle.scheme.specs.Modulus as S
 use Rattle.scheme.specs.Basis as B
 use Rattle.little_endian.specs.Bytes.{word32}
 use Rattle.primus_reduce.specs.Ring.{meant, modulusFor, numberOf}
-use Rattle.primus_reduce.specs.declared.modulus.Modulus.{Modulus}
 use Rattle.primus_decompose.specs.Answers as A
-use Rattle.primus_decompose.specs.Answers.{levelsFor, made}
-use Rattle.primus_decompose.specs.declared.error.ApproxSignedBasisAnswer.{ApproxSignedBasisAnswer}
-use Rattle.primus_decompose.specs.declared.error.ApproxSignedBasisAnswer.the-variants as Tried
 use Rattle.primus_decompose.specs.declared.error.ReadingAnswer.{ReadingAnswer}
 use Rattle.primus_decompose.specs.declared.error.ReadingAnswer.the-variants as E
-use Rattle.primus_decompose.specs.declared.error.WordAnswer.{WordAnswer}
-use Rattle.primus_decompose.specs.declared.error.WordAnswer.the-variants as W
-use Rattle.primus_decompose.specs.declared.parameters.RetainedLevels.{RetainedLevels}
+use Rattle.checks.specs.declared.WordAnswer.{WordAnswer}
+use Rattle.checks.specs.declared.WordAnswer.the-variants as W
 use Rattle.primus_decompose.specs.declared.primitive.basis.ApproxSignedBasis.{ApproxSignedBasis}
 use Rattle.readings_core.specs.declared.command.Session.{Session}
 use Rattle.readings_core.specs.declared.command.Session.the-variants.{Empty, Ready}
@@ -44,25 +39,18 @@ basisLine b t =
       threshold = t;
     }
 
-abbrev pub basisFrom : ApproxSignedBasis → WordAnswer → Reply
-basisFrom b (W.Word t) = Basis (basisLine b t)
-basisFrom b (W.Refused n) = Refused n
-
-abbrev pub basisReply : ApproxSignedBasis → Reply
-basisReply b = basisFrom b (A.thresholdAnswer b)
-
 abbrev pub go : Reply → Session → Turn
 go r s = record { reply = r; session = s; more = true }
 
--- "A refused basis keeps the earlier one."
-abbrev pub afterBasis : Session → ApproxSignedBasisAnswer → Turn
-afterBasis s (Tried.Accepted b) = go (basisReply b) (Ready b)
-afterBasis s (Tried.Refused n) = go (Refused n) s
+-- a basis is judged by 1 to 5, as T is answered; "A refused basis keeps the earlier one."
+abbrev pub afterBasis : Session → ApproxSignedBasis → WordAnswer → Turn
+afterBasis s b (W.Word t) = go (Basis (basisLine b t)) (Ready b)
+afterBasis s b (W.Refused n) = go (Refused n) s
 
-abbrev pub basisTurn : Session → Modulus → ℕ → RetainedLevels → Turn
-basisTurn s m b l = afterBasis s (made m b l)
+abbrev pub basisTurn : Session → ApproxSignedBasis → Turn
+basisTurn s b = afterBasis s b (A.thresholdAnswer b)
 
--- "`word` a reading ε", or the first refusal
+-- "`word` a reading ε"; a word is judged by 1 to 5 and 14, as its reading is answered
 abbrev pub wordFrom : ℕ → ReadingAnswer → Reply
 wordFrom a (E.Read r) = Word (record { word = a; reading = r .reading; error = r .error })
 wordFrom a (E.Refused n) = Refused n
@@ -70,17 +58,21 @@ wordFrom a (E.Refused n) = Refused n
 abbrev pub wordReply : ApproxSignedBasis → ℕ → Reply
 wordReply b a = wordFrom a (A.readingAnswer b a)
 
--- "18. A whole word command comes before any accepted basis."
+-- "18. A whole word command comes before any accepted basis.": there is none to judge the word by
 abbrev pub wordTurn : Session → ℕ → Turn
 wordTurn Empty a = go (Refused 18) Empty
 wordTurn (Ready b) a = go (wordReply b a) (Ready b)
 
--- "19. The command is unknown or its operands are cut off"; "After 19 it ends."
+-- "19. The command is unknown or its operands are cut off": "such a command gets 19 and no other number"
+-- "After 19 it ends."
 abbrev pub over : Session → Turn
 over s = record { reply = Refused 19; session = s; more = false }
 
 abbrev pub basisCommand : Session → List ℕ → Turn
-basisCommand s xs = pick (leb 6 (length xs)) (basisTurn s (modulusFor (word32 xs 0)) (getD xs 4 0) (levelsFor (getD xs 5 0))) (over s)
+basisCommand s xs =
+    pick (leb 6 (length xs))
+    (basisTurn s (A.basisWith (modulusFor (word32 xs 0)) (getD xs 4 0) (getD xs 5 0)))
+    (over s)
 
 abbrev pub wordCommand : Session → List ℕ → Turn
 wordCommand s xs = pick (leb 4 (length xs)) (wordTurn s (word32 xs 0)) (over s)

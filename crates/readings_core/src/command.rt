@@ -1,14 +1,11 @@
 // One command: what it answers, and what it leaves for the next.
 ghost use mathlib.Core.Path.{_≡_};
 ghost use Prim.Native.Nat.{_≤_};
-ghost use Rattle.readings_core.specs.Program.{operands, basisLine, basisReply, go, basisTurn, wordReply, wordTurn, over, basisCommand, wordCommand, turnOf};
+ghost use Rattle.readings_core.specs.Program.{operands, basisLine, go, basisTurn, wordReply, wordTurn, over};
+ghost use Rattle.readings_core.specs.Program.{basisCommand, wordCommand, turnOf};
+use checks::WordAnswer;
 use primus_decompose::ApproxSignedBasis;
-use primus_decompose::ApproxSignedBasisAnswer;
 use primus_decompose::ReadingAnswer;
-use primus_decompose::RetainedLevels;
-use primus_decompose::WordAnswer;
-use primus_decompose::basis_for;
-use primus_decompose::levels_for;
 use primus_reduce::Modulus;
 
 // The basis that was accepted last, if any.
@@ -61,15 +58,6 @@ pub fn operand_count(command: u8) -> usize
     0
 }
 
-fn basis_reply(b: ApproxSignedBasis) -> Reply
-    ensures { λ r. ⌜ r ≡ basisReply b ⌝ }
-{
-    match b.threshold() {
-        WordAnswer::Word(threshold) => Reply::Basis(basis_line(b, threshold)),
-        WordAnswer::Refused(n) => Reply::Refused(n),
-    }
-}
-
 fn basis_line(b: ApproxSignedBasis, threshold: u32) -> BasisReply
     ensures { λ r. ⌜ r ≡ basisLine b threshold ⌝ }
 {
@@ -99,12 +87,12 @@ fn next(reply: Reply, session: Session) -> Turn
 }
 
 // A refused basis keeps the earlier one.
-fn on_basis(session: Session, modulus: Modulus, log: u32, levels: RetainedLevels) -> Turn
-    ensures { λ r. ⌜ r ≡ basisTurn session modulus log levels ⌝ }
+fn on_basis(session: Session, b: ApproxSignedBasis) -> Turn
+    ensures { λ r. ⌜ r ≡ basisTurn session b ⌝ }
 {
-    match basis_for(modulus, log, levels) {
-        ApproxSignedBasisAnswer::Accepted(b) => next(basis_reply(b), Session::Ready(b)),
-        ApproxSignedBasisAnswer::Refused(n) => next(Reply::Refused(n), session),
+    match b.threshold() {
+        WordAnswer::Word(t) => next(Reply::Basis(basis_line(b, t)), Session::Ready(b)),
+        WordAnswer::Refused(n) => next(Reply::Refused(n), session),
     }
 }
 
@@ -151,12 +139,8 @@ fn basis_command(session: Session, operands: &[u8]) -> Turn
     }
     let modulus = Modulus::from_number(little_endian::u32_at(operands, 0));
     let log = little_endian::u8_at(operands, 4);
-    on_basis(
-        session,
-        modulus,
-        log,
-        levels_for(little_endian::u8_at(operands, 5)),
-    )
+    let levels = little_endian::u8_at(operands, 5);
+    on_basis(session, ApproxSignedBasis::given(modulus, log, levels))
 }
 
 // 02: word.

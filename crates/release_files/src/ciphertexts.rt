@@ -1,16 +1,15 @@
 // Ciphertexts, opened and compared with what they open to.
 use crate::files;
 use crate::files::DIFFERS;
-use crate::files::Loaded;
-use crate::lines;
+use checks::WordAnswer;
 use primus_lattice::LweDimension;
 use primus_lattice::LweDimensionAnswer;
 use primus_lwe::LweParameters;
-use primus_lwe::MessageAnswer;
-use primus_lwe::decrypt_message_batch_to;
-use primus_lwe::decrypt_message_packed;
 use primus_lwe::decrypt_message_signed;
+use primus_lwe_batch::decrypt_message_batch_to;
+use primus_lwe_packed::decrypt_message_packed;
 use saved::Head;
+use saved_files::Loaded;
 
 fn parameters(h: Head, dimension: LweDimension) -> LweParameters {
     let modulus = h.modulus;
@@ -18,7 +17,7 @@ fn parameters(h: Head, dimension: LweDimension) -> LweParameters {
         dimension,
         modulus,
         plaintext_modulus: h.plaintext_modulus,
-        bound: h.bound,
+        error_limit: h.error_limit,
     }
 }
 
@@ -36,20 +35,14 @@ fn open(h: Head, secret: &[u32], words: &[u32], out: &mut [u32]) -> u32 {
     }
 }
 
-// The same in rooms that are cut to the lengths that the heads give.
+// The rooms are cut to the lengths that the heads give.
 fn open_in(h: Head, n: usize, secret: &[u32], words: &[u32], out: &mut [u32]) -> u32 {
     let len = h.words as usize;
     let count = h.count as usize;
-    if secret.len() < n {
+    if secret.len() < n || words.len() < len || out.len() < count {
         return DIFFERS;
     }
-    if words.len() < len {
-        return DIFFERS;
-    }
-    if out.len() < count {
-        return DIFFERS;
-    }
-    open(h, &secret[..n], &words[..len], &mut out[..count])
+    open(h, &secret[0..n], &words[0..len], &mut out[0..count])
 }
 
 // The message of the ciphertext at `at`, or 2^32 − 1, which is none.
@@ -68,8 +61,8 @@ fn message_at(
         return 0xffff_ffff;
     }
     match decrypt_message_signed(params, secret, &words[at..end]) {
-        MessageAnswer::Message(m) => m,
-        MessageAnswer::Refused(_) => 0xffff_ffff,
+        WordAnswer::Word(m) => m,
+        WordAnswer::Refused(_) => 0xffff_ffff,
     }
 }
 
@@ -92,7 +85,7 @@ fn open_signed(h: Head, n: usize, secret: &[i32], words: &[u32], out: &mut [u32]
     match LweDimension::try_new(h.n) {
         LweDimensionAnswer::Refused(r) => r,
         LweDimensionAnswer::Accepted(dimension) => {
-            open_rows(parameters(h, dimension), &secret[..n], words, width, out);
+            open_rows(parameters(h, dimension), &secret[0..n], words, width, out);
             0
         }
     }
@@ -107,14 +100,13 @@ fn tell(folder: &[u8], name: &[u8], l: Loaded, refusal: u32, out: &[u32]) {
     let b = beside.head;
     let sum = beside.checksum as u64;
     files::begin(folder, name, l);
-    let r = checks::refuse(l.refusal, beside.refusal != 0, beside.refusal);
-    let r = checks::refuse(r, refusal != 0, refusal);
-    let r = checks::refuse(r, b.kind != 7 || b.words != h.count, DIFFERS);
-    let r = checks::refuse(r, files::compared(out, &told, count) != 0, DIFFERS);
-    lines::print(b"", count as u64);
-    lines::print(b" messages, checksum ", sum);
-    lines::write(b": ");
-    lines::end(b"as saved", r);
+    let r = files::first(files::first(l.refusal, beside.refusal), refusal);
+    let r = files::first(r, files::unless(b.kind == 7 && b.words == h.count));
+    let r = files::first(r, files::unless(programs::same(out, &told, count)));
+    programs::print(b"", count as u64);
+    programs::print(b" messages, checksum ", sum);
+    programs::write(b": ");
+    files::end(b"as saved", r);
 }
 
 pub(crate) fn opened(folder: &[u8], name: &[u8], secret: &[u8]) {

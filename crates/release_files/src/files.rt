@@ -1,21 +1,13 @@
-// A saved file: its head, its words in a lent buffer, and the line that the program writes about it.
+// The files of a release, and the line that the program writes about each.
 ghost use Prim.Native.Nat.{_≤_};
 ghost use lib.ListN.{length};
-use crate::lines;
 use primus_lattice::LweTag;
 use primus_lattice::MarkAnswer;
 use primus_lattice::Tally;
-use saved::Head;
+use saved_files::Loaded;
 
 // 999 stands for a difference that no number of document 01 names.
 pub(crate) const DIFFERS: u32 = 999;
-
-pub(crate) struct Loaded {
-    pub(crate) refusal: u32,
-    pub(crate) head: Head,
-    pub(crate) tally: Tally,
-    pub(crate) checksum: u32,
-}
 
 fn store(out: &mut [u8], k: usize, byte: u8) {
     if k < out.len() {
@@ -35,68 +27,6 @@ fn put(out: &mut [u8], at: usize, s: &[u8]) -> usize {
     k
 }
 
-// The bytes of the file folder/name.suffix, and their number; 0 where it cannot be opened.
-fn read(path: &[u8], bytes: &mut [u8]) -> usize
-    ensures { λ r. ⌜ r ≤ length (now (bytes .exit)) ⌝ }
-{
-    let fd = os::open_read(path);
-    if fd < 0 {
-        os::fail(path);
-        return 0;
-    }
-    let len = io::read_full(fd, bytes);
-    libc::close(fd);
-    if bytes.len() < len {
-        return 0;
-    }
-    len
-}
-
-fn mixed(sum: u32, byte: u8) -> u32 {
-    std::num::wrapping_add_u32(primus_reduce::wrapping_mul(sum, 16777619), byte as u32)
-}
-
-fn checksum(bytes: &[u8]) -> u32 {
-    let mut sum = 0;
-    let mut i = 0;
-    while i < bytes.len() {
-        sum = mixed(sum, bytes[i]);
-        i += 1;
-    }
-    sum
-}
-
-fn judged(bytes: &[u8]) -> Loaded {
-    let head = saved::head_of(bytes);
-    let tally = saved::tally_at(bytes, 0);
-    Loaded {
-        refusal: saved::file_refusal(bytes),
-        head,
-        tally,
-        checksum: checksum(bytes),
-    }
-}
-
-fn words_from(path: &[u8], bytes: &mut [u8], words: &mut [u32]) -> Loaded {
-    let len = read(path, bytes);
-    saved::words_to(&bytes[..len], words);
-    judged(&bytes[..len])
-}
-
-fn numbers_to(bytes: &[u8], numbers: &mut [i32]) {
-    let mut i = 0;
-    while i < numbers.len() {
-        numbers[i] = saved::signed_at(bytes, i);
-        i += 1;
-    }
-}
-
-fn numbers_from(path: &[u8], bytes: &mut [u8], numbers: &mut [i32]) -> Loaded {
-    let len = read(path, bytes);
-    numbers_to(&bytes[..len], numbers);
-    judged(&bytes[..len])
-}
-
 // folder/name.suffix, and its length.
 fn path_to(out: &mut [u8], folder: &[u8], name: &[u8], suffix: &[u8]) -> usize
     ensures { λ r. ⌜ r ≤ length (now (out .exit)) ⌝ }
@@ -110,49 +40,28 @@ fn path_to(out: &mut [u8], folder: &[u8], name: &[u8], suffix: &[u8]) -> usize
     end
 }
 
-fn load_at(
-    folder: &[u8],
-    name: &[u8],
-    suffix: &[u8],
-    path: &mut [u8],
-    bytes: &mut [u8],
-    words: &mut [u32],
-) -> Loaded {
-    let end = path_to(path, folder, name, suffix);
-    words_from(&path[..end], bytes, words)
-}
-
-// A file with its words.
+// The file folder/name.suffix with its words.
 pub(crate) fn load(folder: &[u8], name: &[u8], suffix: &[u8], words: &mut [u32]) -> Loaded {
-    let mut path = [0u8; 64];
-    let mut bytes = [0u8; 65536];
-    load_at(folder, name, suffix, &mut path, &mut bytes, words)
+    let mut room = [0u8; 64];
+    let end = path_to(&mut room, folder, name, suffix);
+    let path: &[u8] = &room;
+    saved_files::load(&path[0..end], words)
 }
 
-fn load_numbers_at(
-    folder: &[u8],
-    name: &[u8],
-    path: &mut [u8],
-    bytes: &mut [u8],
-    numbers: &mut [i32],
-) -> Loaded {
-    let end = path_to(path, folder, name, b"");
-    numbers_from(&path[..end], bytes, numbers)
-}
-
-// A file with its words as signed numbers.
+// The file folder/name with its words as signed numbers.
 pub(crate) fn load_numbers(folder: &[u8], name: &[u8], numbers: &mut [i32]) -> Loaded {
-    let mut path = [0u8; 64];
-    let mut bytes = [0u8; 65536];
-    load_numbers_at(folder, name, &mut path, &mut bytes, numbers)
+    let mut room = [0u8; 64];
+    let end = path_to(&mut room, folder, name, b"");
+    let path: &[u8] = &room;
+    saved_files::load_numbers(&path[0..end], numbers)
 }
 
 fn print_good(good: bool) {
     if good {
-        lines::write(b" (good)");
+        programs::write(b" (good)");
         return;
     }
-    lines::write(b" (not good)");
+    programs::write(b" (not good)");
 }
 
 fn print_tally(l: Loaded) {
@@ -162,41 +71,53 @@ fn print_tally(l: Loaded) {
     let Tally::Present(a) = tally else {
         return;
     };
-    lines::print(b", tally ", a);
+    programs::print(b", tally ", a);
     let tag = LweTag::from_tally(tally);
     match tag.is_good(modulus, h.plaintext_modulus) {
         MarkAnswer::Mark(good) => print_good(good),
-        MarkAnswer::Refused(r) => lines::print(b" refused ", r as u64),
+        MarkAnswer::Refused(r) => programs::print(b" refused ", r as u64),
     }
 }
 
 // "folder/name: kind 5, 100 words, tally 3 (good), checksum 1234: "
 pub(crate) fn begin(folder: &[u8], name: &[u8], l: Loaded) {
     let h = l.head;
-    lines::write(folder);
-    lines::write(name);
-    lines::print(b": kind ", h.kind as u64);
-    lines::print(b", ", h.words as u64);
-    lines::write(b" words");
+    programs::write(folder);
+    programs::write(name);
+    programs::print(b": kind ", h.kind as u64);
+    programs::print(b", ", h.words as u64);
+    programs::write(b" words");
     print_tally(l);
-    lines::print(b", checksum ", l.checksum as u64);
-    lines::write(b": ");
+    programs::print(b", checksum ", l.checksum as u64);
+    programs::write(b": ");
 }
 
-// 0 where the first `count` words are the same.
-pub(crate) fn compared(x: &[u32], y: &[u32], count: usize) -> u32 {
-    let mut i = 0;
-    while i < count {
-        if x.len() <= i {
-            return DIFFERS;
-        }
-        if y.len() <= i {
-            return DIFFERS;
-        }
-        if x[i] != y[i] {
-            return DIFFERS;
-        }
-        i += 1;
+// The end of a line: 0, the number of a refusal, or 999 for a difference.
+pub(crate) fn end(good: &[u8], refusal: u32) {
+    if refusal == 0 {
+        programs::write(good);
+        programs::write(b"\n");
+        return;
     }
-    0
+    if refusal == DIFFERS {
+        programs::write(b"DIFFERS\n");
+        return;
+    }
+    programs::say(b"REFUSED ", refusal as u64);
+}
+
+// The first of two that is not 0.
+pub(crate) fn first(refusal: u32, other: u32) -> u32 {
+    if refusal == 0 {
+        return other;
+    }
+    refusal
+}
+
+// 999 unless it is as saved.
+pub(crate) fn unless(equal: bool) -> u32 {
+    if equal {
+        return 0;
+    }
+    DIFFERS
 }

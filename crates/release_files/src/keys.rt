@@ -1,15 +1,12 @@
 // Keys, each tried on what it was made for.
 use crate::files;
 use crate::files::DIFFERS;
-use crate::lines;
-use key_switch::LweKeySwitchingParametersAnswer;
 use key_switch::key_switch_batch_to;
-use key_switch::parameters_for;
-use primus_decompose::levels_for;
+use key_switch_key::LweKeySwitchingParameters;
 use primus_lattice::LweDimension;
 use primus_lattice::LweDimensionAnswer;
 use primus_lwe::LweEncryptionParameters;
-use primus_lwe::decrypt_phase_batch_to;
+use primus_lwe_batch::decrypt_phase_batch_to;
 use saved::Head;
 
 fn secret_refusal(h: Head, kind: u32) -> u32 {
@@ -27,10 +24,7 @@ pub(crate) fn secret(folder: &[u8], name: &[u8]) {
     let l = files::load(folder, name, b"", &mut words);
     let r = secret_refusal(l.head, 1);
     files::begin(folder, name, l);
-    lines::end(
-        b"a secret key of words",
-        checks::refuse(l.refusal, r != 0, r),
-    );
+    files::end(b"a secret key of words", files::first(l.refusal, r));
 }
 
 pub(crate) fn signed_secret(folder: &[u8], name: &[u8]) {
@@ -38,9 +32,9 @@ pub(crate) fn signed_secret(folder: &[u8], name: &[u8]) {
     let l = files::load_numbers(folder, name, &mut numbers);
     let r = secret_refusal(l.head, 2);
     files::begin(folder, name, l);
-    lines::end(
+    files::end(
         b"a secret key of signed numbers",
-        checks::refuse(l.refusal, r != 0, r),
+        files::first(l.refusal, r),
     );
 }
 
@@ -75,7 +69,7 @@ fn phases(h: Head, secret: &[u32], key: &[u32], out: &mut [u32]) -> u32 {
             let params = LweEncryptionParameters {
                 dimension,
                 modulus,
-                bound: h.bound,
+                error_limit: h.error_limit,
             };
             decrypt_phase_batch_to(params, secret, key, out)
         }
@@ -87,20 +81,14 @@ fn public_refusal(h: Head, secret: &[u32], key: &[u32], out: &mut [u32]) -> u32 
     let n = h.n;
     let len = h.words as usize;
     let modulus = h.modulus;
-    if secret.len() < n {
+    if secret.len() < n || key.len() < len || out.len() < n {
         return DIFFERS;
     }
-    if key.len() < len {
-        return DIFFERS;
-    }
-    if out.len() < n {
-        return DIFFERS;
-    }
-    let r = phases(h, &secret[..n], &key[..len], &mut out[..n]);
+    let r = phases(h, &secret[0..n], &key[0..len], &mut out[0..n]);
     if r != 0 {
         return r;
     }
-    near(out, n, h.bound, modulus.size())
+    near(out, n, h.error_limit, modulus.size())
 }
 
 pub(crate) fn public_key(folder: &[u8], name: &[u8], secret: &[u8]) {
@@ -111,25 +99,15 @@ pub(crate) fn public_key(folder: &[u8], name: &[u8], secret: &[u8]) {
     let l = files::load(folder, name, b"", &mut key);
     let h = l.head;
     let r = public_refusal(h, &words, &key, &mut out);
-    let r = checks::refuse(l.refusal, r != 0, r);
+    let r = files::first(files::first(l.refusal, r), s.refusal);
     files::begin(folder, name, l);
-    lines::end(
-        b"rows that open to 0",
-        checks::refuse(r, s.refusal != 0, s.refusal),
-    );
+    files::end(b"rows that open to 0", r);
 }
 
 fn switch(h: Head, key: &[u32], input: &[u32], out: &mut [u32]) -> u32 {
     let modulus = h.modulus;
-    match parameters_for(modulus, h.base_log, levels_for(h.levels), h.n, h.m) {
-        LweKeySwitchingParametersAnswer::Accepted(params) => key_switch_batch_to(
-            params,
-            key,
-            input,
-            out,
-        ),
-        LweKeySwitchingParametersAnswer::Refused(r) => r,
-    }
+    let params = LweKeySwitchingParameters::given(modulus, h.base_log, h.levels, h.n, h.m);
+    key_switch_batch_to(params, key, input, out)
 }
 
 // The key switches the saved input to the saved output, word for word.
@@ -144,16 +122,10 @@ fn switch_refusal(
     let a = h.words as usize;
     let b = from.words as usize;
     let c = to.words as usize;
-    if key.len() < a {
+    if key.len() < a || input.len() < b || out.len() < c {
         return DIFFERS;
     }
-    if input.len() < b {
-        return DIFFERS;
-    }
-    if out.len() < c {
-        return DIFFERS;
-    }
-    switch(h, &key[..a], &input[..b], &mut out[..c])
+    switch(h, &key[0..a], &input[0..b], &mut out[0..c])
 }
 
 pub(crate) fn switching_key(folder: &[u8], name: &[u8], from: &[u8], to: &[u8]) {
@@ -167,15 +139,11 @@ pub(crate) fn switching_key(folder: &[u8], name: &[u8], from: &[u8], to: &[u8]) 
     let h = l.head;
     let y_head = y.head;
     let r = switch_refusal(h, x.head, y_head, &key, &input, &mut out);
-    let r = checks::refuse(l.refusal, r != 0, r);
-    let r = checks::refuse(
-        r,
-        files::compared(&out, &output, y_head.words as usize) != 0,
-        DIFFERS,
-    );
+    let equal = programs::same(&out, &output, y_head.words as usize);
+    let r = files::first(files::first(l.refusal, r), files::unless(equal));
     files::begin(folder, name, l);
-    lines::end(
+    files::end(
         b"switches as saved",
-        checks::refuse(r, h.kind != 3, DIFFERS),
+        files::first(r, files::unless(h.kind == 3)),
     );
 }

@@ -3,7 +3,6 @@
 mod ciphertexts;
 mod files;
 mod keys;
-mod lines;
 
 // The files of one modulus. A key is tried on what it was made for.
 fn setting(folder: &[u8]) {

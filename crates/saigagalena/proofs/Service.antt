@@ -9,17 +9,18 @@ use lib.Dec.{eqb}
 use borrow.Author.Tests.{eq-eqb, ne-eqb}
 use Rattle.scheme.specs.Numbers.{pick}
 use Rattle.scheme.specs.Codec.{decode}
-use Rattle.scheme.specs.Checks.{firstOf}
+use Rattle.scheme.specs.Checks.{refusal}
 use Rattle.scheme.proofs.Codec.{decode-below}
-use Rattle.scheme.proofs.Checks.{passed, plaintext-ok}
+use Rattle.scheme.proofs.Checks.{plaintext-ok}
+use Rattle.scheme.proofs.Order.{passed}
 use Rattle.primus_reduce.specs.Ring.{sizeOf, modulusFor}
-use Rattle.primus_encoding.specs.declared.WordAnswer.the-variants as W
+use Rattle.checks.specs.declared.WordAnswer.the-variants as W
 use Rattle.primus_encoding.specs.Answers.{decodeRows}
-use Rattle.saigagalena.specs.Service.{answerNumber, decodeNumber}
+use Rattle.saigagalena.specs.Service.{wordNumber, decodeNumber}
 
 -- the first of 2, 7, 8, 14 that applies, or 0
 abbrev pub refusalOf : ℕ → ℕ → ℕ → ℕ
-refusalOf n t p = firstOf (decodeRows t (modulusFor n) p)
+refusalOf n t p = refusal (decodeRows t (modulusFor n) p)
 
 abbrev pub messageOf : ℕ → ℕ → ℕ → ℕ
 messageOf n t p = decode (sizeOf (modulusFor n)) t p
@@ -31,10 +32,10 @@ pub record Told (n t p : ℕ) : Type 0 where
 pub told : (n t p : ℕ) → Told n t p
 told n t p = record { message = λ e. (at (eq-eqb _ 0 e), below e); refusal = λ h. at (ne-eqb _ 0 h) }
   where
-    at : {b : Bool} → eqb (refusalOf n t p) 0 ≡ b → decodeNumber n t p ≡ answerNumber (pick b (W.Word (messageOf n t p)) (W.Refused (refusalOf n t p)))
-    at e = ap (λ b. answerNumber (pick b (W.Word (messageOf n t p)) (W.Refused (refusalOf n t p)))) e
+    at : {b : Bool} → eqb (refusalOf n t p) 0 ≡ b → decodeNumber n t p ≡ wordNumber (pick b (W.Word (messageOf n t p)) (W.Refused (refusalOf n t p)))
+    at e = ap (λ b. wordNumber (pick b (W.Word (messageOf n t p)) (W.Refused (refusalOf n t p)))) e
 
     below : refusalOf n t p ≡ 0 → messageOf n t p < t
     below e =
-        let s : 2 ≤ t = plaintext-ok t (passed (decodeRows t (modulusFor n) p) tt e .1 .0) in
+        let s : 2 ≤ t = plaintext-ok t (passed (decodeRows t (modulusFor n) p) e 7 tt) in
         decode-below (sizeOf (modulusFor n)) t p (omega arith)

@@ -1,9 +1,9 @@
 // Answers of one number of 64 bits: the result, or 2^32 plus the refusal number.
 ghost use mathlib.Core.Path.{_≡_};
-ghost use Rattle.saigagalena.specs.Service.{refusedNumber, answerNumber, phaseNumber, messageNumber};
-use primus_encoding::WordAnswer;
-use primus_lwe::MessageAnswer;
-use primus_lwe::PhaseAnswer;
+ghost use Rattle.primus_encoding.specs.Answers.{orZero};
+ghost use Rattle.saigagalena.specs.Service.{refusedNumber, wordNumber, markNumber};
+use checks::WordAnswer;
+use primus_lattice::MarkAnswer;
 
 pub(crate) fn refused(r: u32) -> u64
     ensures { λ x. ⌜ x ≡ refusedNumber r ⌝ }
@@ -12,7 +12,7 @@ pub(crate) fn refused(r: u32) -> u64
 }
 
 pub(crate) fn word_number(answer: WordAnswer) -> u64
-    ensures { λ r. ⌜ r ≡ answerNumber answer ⌝ }
+    ensures { λ r. ⌜ r ≡ wordNumber answer ⌝ }
 {
     match answer {
         WordAnswer::Word(x) => x as u64,
@@ -20,20 +20,26 @@ pub(crate) fn word_number(answer: WordAnswer) -> u64
     }
 }
 
-pub(crate) fn phase_number(answer: PhaseAnswer) -> u64
-    ensures { λ r. ⌜ r ≡ phaseNumber answer ⌝ }
+// The word, or 0: for a call that has judged the numbers itself.
+pub(crate) fn or_zero(answer: WordAnswer) -> u32
+    ensures { λ r. ⌜ r ≡ orZero answer ⌝ }
 {
     match answer {
-        PhaseAnswer::Phase(p) => p as u64,
-        PhaseAnswer::Refused(r) => refused(r),
+        WordAnswer::Word(x) => x,
+        WordAnswer::Refused(_) => 0,
     }
 }
 
-pub(crate) fn message_number(answer: MessageAnswer) -> u64
-    ensures { λ r. ⌜ r ≡ messageNumber answer ⌝ }
+pub(crate) fn mark_number(answer: MarkAnswer) -> u64
+    ensures { λ r. ⌜ r ≡ markNumber answer ⌝ }
 {
     match answer {
-        MessageAnswer::Message(m) => m as u64,
-        MessageAnswer::Refused(r) => refused(r),
+        MarkAnswer::Mark(good) => {
+            if good {
+                return 1;
+            }
+            0
+        }
+        MarkAnswer::Refused(r) => refused(r),
     }
 }

@@ -1,19 +1,13 @@
 // The basis, readings and digits, for C.
 ghost use mathlib.Core.Path.{_≡_};
-ghost use mathlib.Core.List.{[], _∷_};
 ghost use lib.ListN.{length};
-ghost use Rattle.scheme.specs.Digits.{runsOf};
-ghost use Rattle.scheme.specs.Checks.{row, firstOf, lengthFails, Answers};
-ghost use Rattle.primus_decompose.specs.Answers.{basis as meantBasis, sliceRefusal};
-ghost use Rattle.saigagalena.specs.Numbers.{basisWith};
-ghost use Rattle.saigagalena.specs.Bases.{constants, basisWords, basisTable, readingNumbers, readingTable, Wrote};
+ghost use Rattle.primus_reduce.specs.Ring.{modulusFor};
+ghost use Rattle.primus_decompose.specs.Answers.{basisWith, DecomposesSlice};
+ghost use Rattle.saigagalena.specs.Bases.{constants, WritesBasis, sized, Wrote, WritesReading};
+use crate::answers;
+use crate::parameters;
 use primus_decompose::ApproxSignedBasis;
-use primus_decompose::ApproxSignedBasisAnswer;
 use primus_decompose::ReadingAnswer;
-use primus_decompose::WordAnswer;
-use primus_decompose::basis_for;
-use primus_decompose::levels_for;
-use primus_reduce::Modulus;
 
 fn copy(out: &mut [u32], words: &[u32])
     requires { ⌜ length (now out) ≡ length (now words) ⌝ }
@@ -26,13 +20,11 @@ fn copy(out: &mut [u32], words: &[u32])
     }
 }
 
-// Six words; 11 where there is no room for them.
-fn write_constants(out: &mut [u32], basis: ApproxSignedBasis, threshold: u32) -> u32
-    ensures { λ r. ⌜ Answers (firstOf (row (lengthFails (length (now (out .entry))) 6) 11 ∷ [])) (constants basis threshold) (now (out .entry)) r (now (out .exit)) ⌝ }
+// Six words, of which T is given.
+fn write_constants(out: &mut [u32], basis: ApproxSignedBasis, threshold: u32)
+    requires { ⌜ length (now out) ≡ 6 ⌝ }
+    ensures { λ _. ⌜ now (out .exit) ≡ constants basis threshold ⌝ }
 {
-    if out.len() != 6 {
-        return 11;
-    }
     let levels = basis.level_count();
     let words = [
         basis.value_bits(),
@@ -43,17 +35,27 @@ fn write_constants(out: &mut [u32], basis: ApproxSignedBasis, threshold: u32) ->
         threshold,
     ];
     copy(out, &words);
-    0
 }
 
-// T is judged by 1 to 5, before 11.
-fn write_basis(out: &mut [u32], basis: ApproxSignedBasis) -> u32
-    ensures { λ r. ⌜ Answers (firstOf (basisTable basis (length (now (out .entry))))) (basisWords basis) (now (out .entry)) r (now (out .exit)) ⌝ }
+// The first of 1 to 5, and 11 for an output that is not `count` numbers; or 0.
+fn sizes_refusal(basis: ApproxSignedBasis, room: usize, count: usize) -> u32
+    ensures { λ r. ⌜ sized basis room count r ⌝ }
 {
-    match basis.threshold() {
-        WordAnswer::Word(threshold) => write_constants(out, basis, threshold),
-        WordAnswer::Refused(r) => r,
+    let mut s = basis.sizes();
+    s.output = checks::length_differs(room, count);
+    s.first()
+}
+
+fn write_basis(out: &mut [u32], basis: ApproxSignedBasis) -> u32
+    ensures { λ r. ⌜ WritesBasis basis (now (out .entry)) r (now (out .exit)) ⌝ }
+{
+    let r = sizes_refusal(basis, out.len(), 6);
+    if r != 0 {
+        return r;
     }
+    let threshold = answers::or_zero(basis.threshold());
+    write_constants(out, basis, threshold);
+    0
 }
 
 // k, B, L, d, H and T. Refuses by 1 to 5, 11.
@@ -64,15 +66,13 @@ pub extern "C" fn saigagalena_basis(
     levels: u32,
     out: &mut [u32],
 ) -> u32
-    ensures { λ r. ⌜ Answers (firstOf (basisTable (basisWith modulus «base_log» levels) (length (now (out .entry))))) (basisWords (basisWith modulus «base_log» levels)) (now (out .entry)) r (now (out .exit)) ⌝ }
+    ensures { λ r. ⌜ WritesBasis (basisWith (modulusFor modulus) «base_log» levels)
+        (now (out .entry)) r (now (out .exit)) ⌝ }
 {
-    match basis_for(Modulus::from_number(modulus), base_log, levels_for(levels)) {
-        ApproxSignedBasisAnswer::Accepted(basis) => write_basis(out, basis),
-        ApproxSignedBasisAnswer::Refused(r) => r,
-    }
+    write_basis(out, parameters::basis_for(modulus, base_log, levels))
 }
 
-fn write_reading(out: &mut [i64], answer: ReadingAnswer) -> u32
+fn write_answer(out: &mut [i64], answer: ReadingAnswer) -> u32
     requires { ⌜ length (now out) ≡ 2 ⌝ }
     ensures { λ r. ⌜ Wrote answer (now (out .entry)) r (now (out .exit)) ⌝ }
 {
@@ -88,6 +88,16 @@ fn write_reading(out: &mut [i64], answer: ReadingAnswer) -> u32
     }
 }
 
+fn write_reading(out: &mut [i64], basis: ApproxSignedBasis, word: u32) -> u32
+    ensures { λ r. ⌜ WritesReading basis word (now (out .entry)) r (now (out .exit)) ⌝ }
+{
+    let r = sizes_refusal(basis, out.len(), 2);
+    if r != 0 {
+        return r;
+    }
+    write_answer(out, basis.reading(word))
+}
+
 // The reading and ε of a word. Refuses by 1 to 5, 11, 14.
 #[no_mangle]
 pub extern "C" fn saigagalena_reading(
@@ -97,17 +107,10 @@ pub extern "C" fn saigagalena_reading(
     word: u32,
     out: &mut [i64],
 ) -> u32
-    ensures { λ r. ⌜ Answers (firstOf (readingTable (basisWith modulus «base_log» levels) word (length (now (out .entry))))) (readingNumbers (basisWith modulus «base_log» levels) word) (now (out .entry)) r (now (out .exit)) ⌝ }
+    ensures { λ r. ⌜ WritesReading (basisWith (modulusFor modulus) «base_log» levels) word
+        (now (out .entry)) r (now (out .exit)) ⌝ }
 {
-    match basis_for(Modulus::from_number(modulus), base_log, levels_for(levels)) {
-        ApproxSignedBasisAnswer::Accepted(basis) => {
-            if out.len() != 2 {
-                return 11;
-            }
-            write_reading(out, basis.reading(word))
-        }
-        ApproxSignedBasisAnswer::Refused(r) => r,
-    }
+    write_reading(out, parameters::basis_for(modulus, base_log, levels), word)
 }
 
 // The digits of each word, as L runs. Refuses by 1 to 5, 11, 14.
@@ -119,10 +122,9 @@ pub extern "C" fn saigagalena_decompose(
     input: &[u32],
     out: &mut [u32],
 ) -> u32
-    ensures { λ r. ⌜ Answers (sliceRefusal (basisWith modulus «base_log» levels) (now (input .entry)) (length (now (out .entry)))) (runsOf (meantBasis (basisWith modulus «base_log» levels)) (now (input .entry))) (now (out .entry)) r (now (out .exit)) ⌝ }
+    ensures { λ r. ⌜ DecomposesSlice (basisWith (modulusFor modulus) «base_log» levels) (now (input .entry))
+        (now (out .entry)) r (now (out .exit)) ⌝ }
 {
-    match basis_for(Modulus::from_number(modulus), base_log, levels_for(levels)) {
-        ApproxSignedBasisAnswer::Accepted(basis) => basis.decompose_slice_to(input, out),
-        ApproxSignedBasisAnswer::Refused(r) => r,
-    }
+    let basis = parameters::basis_for(modulus, base_log, levels);
+    basis.decompose_slice_to(input, out)
 }

@@ -1,4 +1,5 @@
--- The layout of a saved file (docs/FILES.md): a head of 64 bytes, the words, and what is saved beside them. All numbers are little-endian.
+-- The layout of a saved file (docs/FILES.md): a head of 64 bytes, the words, and what is saved beside them. All numbers are
+-- little-endian.
 use mathlib.Core.Bool.{Bool, not, _||_}
 use mathlib.Core.List.{List, [], _∷_}
 use Prim.Native.Nat.{ℕ, _+_, _*_, _-_, _^_}
@@ -6,7 +7,7 @@ use lib.Dec.{eqb, ltb}
 use lib.IntN.{ℤ, pos, _-ℤ_}
 use lib.ListN.{length}
 use Rattle.scheme.specs.Numbers.{pick, tabulate}
-use Rattle.scheme.specs.Checks.{Check, row}
+use Rattle.scheme.specs.Checks.{Check, row, applies}
 use Rattle.scheme.specs.Tally.{Tally, Absent, Present}
 use Rattle.little_endian.specs.Bytes.{word32, word64}
 use Rattle.primus_reduce.specs.Ring.{modulusFor}
@@ -36,7 +37,7 @@ headOf s =
       «base_log» = word32 s 24;
       levels = word32 s 28;
       «plaintext_modulus» = word32 s 32;
-      bound = word32 s 36;
+      «error_limit» = word32 s 36;
       count = countOf s;
       words = wordsOf s;
       beside = besideOf s;
@@ -81,7 +82,7 @@ sizeFor w c b = 64 + 4 * w + pick (eqb b 1) (8 * c) 0
 abbrev pub sizeFails : ℕ → ℕ → ℕ → ℕ → Bool
 sizeFails len w c b = not (eqb len (sizeFor w c b))
 
--- 19: bytes that are no whole file of this layout
+-- 19: bytes that are no whole file of this layout. It is no number of the order: where it applies there is nothing to judge.
 abbrev pub fileRows : List ℕ → List Check
 fileRows s =
     row (ltb (length s) 64) 19
@@ -91,3 +92,6 @@ fileRows s =
     ∷ row (keptFails s) 19
     ∷ row (sizeFails (length s) (wordsOf s) (countOf s) (besideOf s)) 19
     ∷ []
+
+abbrev pub fileFails : List ℕ → Bool
+fileFails s = applies (fileRows s) 19

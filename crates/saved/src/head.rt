@@ -1,8 +1,8 @@
 // The head of a saved file: 64 bytes. Whatever is no whole file of this layout is refused by 19.
 ghost use mathlib.Core.Path.{_≡_};
 ghost use lib.ListN.{length};
-ghost use Rattle.scheme.specs.Checks.{firstOf};
-ghost use Rattle.saved.specs.Layout.{headOf, fileRows, signatureFails, kindFails, besideFails, keptFails, sizeFails};
+ghost use Rattle.scheme.specs.Numbers.{pick};
+ghost use Rattle.saved.specs.Layout.{headOf, fileFails, signatureFails, kindFails, besideFails, keptFails, sizeFails};
 use primus_reduce::Modulus;
 
 // What the words are, and what they were made with; 0 where a number does not apply.
@@ -14,7 +14,7 @@ pub struct Head {
     pub base_log: u32,
     pub levels: u32,
     pub plaintext_modulus: u32,
-    pub bound: u32,
+    pub error_limit: u32,
     pub count: u32,
     pub words: u32,
     pub beside: u32,
@@ -33,7 +33,7 @@ pub fn head_of(bytes: &[u8]) -> Head
         base_log: little_endian::u32_at(bytes, 24),
         levels: little_endian::u32_at(bytes, 28),
         plaintext_modulus: little_endian::u32_at(bytes, 32),
-        bound: little_endian::u32_at(bytes, 36),
+        error_limit: little_endian::u32_at(bytes, 36),
         count: little_endian::u32_at(bytes, 40),
         words: little_endian::u32_at(bytes, 44),
         beside: little_endian::u32_at(bytes, 48),
@@ -80,15 +80,22 @@ fn size_differs(len: usize, words: u32, count: u32, beside: u32) -> bool
     len != 64 + 4 * words as usize
 }
 
-// 19 for bytes that are no whole file of this layout, else 0.
-pub fn file_refusal(bytes: &[u8]) -> u32
-    ensures { λ r. ⌜ r ≡ firstOf (fileRows (now (bytes .entry))) ⌝ }
+// 19: no whole file of this layout.
+pub fn file_refused(bytes: &[u8]) -> bool
+    ensures { λ r. ⌜ r ≡ fileFails (now (bytes .entry)) ⌝ }
 {
     let h = head_of(bytes);
-    let r = checks::refuse(0, bytes.len() < 64, 19);
-    let r = checks::refuse(r, signature_unknown(bytes), 19);
-    let r = checks::refuse(r, kind_unknown(h.kind), 19);
-    let r = checks::refuse(r, beside_refused(h.kind, h.beside), 19);
-    let r = checks::refuse(r, kept_used(bytes), 19);
-    checks::refuse(r, size_differs(bytes.len(), h.words, h.count, h.beside), 19)
+    let r = size_differs(bytes.len(), h.words, h.count, h.beside) | kept_used(bytes);
+    let r = (r | beside_refused(h.kind, h.beside)) | kind_unknown(h.kind);
+    (r | signature_unknown(bytes)) | (bytes.len() < 64)
+}
+
+// 19 for bytes that are no whole file of this layout, else 0.
+pub fn file_refusal(bytes: &[u8]) -> u32
+    ensures { λ r. ⌜ r ≡ pick (fileFails (now (bytes .entry))) 19 0 ⌝ }
+{
+    if file_refused(bytes) {
+        return 19;
+    }
+    0
 }

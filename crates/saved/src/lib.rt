@@ -4,6 +4,7 @@ mod words;
 
 pub use head::Head;
 pub use head::file_refusal;
+pub use head::file_refused;
 pub use head::head_of;
 pub use words::signed_at;
 pub use words::tally_at;

@@ -1,19 +1,24 @@
 -- What a refusal by the order says.
 --     in-order      a refusal applies, and no number before it in the order does
---     passed        without a refusal no number applies
+--     passed        without a refusal no number applies; none-holds: none of the conditions holds
 --     early, late   sizes are judged before values: the first number of the sizes, or where there is none that of the values
 --     refused, done the two ways through a call with a lent buffer
 -- Assumes nothing.
 use mathlib.Core.Path.{_≡_, refl, sym, ap, _∙_}
 use mathlib.Core.Bool.{Bool, true, false, not, _||_, _&&_}
 use mathlib.Core.List.{List, [], _∷_, _++_}
-use Prim.Native.Nat.{ℕ}
+use Prim.Native.Nat.{ℕ, _+_}
 use native.Mathlib.Omega.{arith}
 use lib.Dec.{T, eqb}
 use mir.Facts.{and-yes, eqb-no}
 use borrow.Author.Tests.{eqb-true, eq-eqb, ne-eqb}
-use Rattle.scheme.specs.Numbers.{pick}
+use Rattle.scheme.specs.Numbers.{pick, tabulate}
 use Rattle.scheme.specs.Checks.{Check, sizes, values, order, applies, firstIn, refusal, Writes}
+
+-- document 01 numbers its checks in the order in which they are judged
+pub numbered : order ≡ tabulate 17 (λ i. i + 1)
+unfolding tabulate
+numbered = refl
 
 -- no number of a list is 0
 abbrev pub positive : List ℕ → Bool
@@ -155,3 +160,70 @@ pick-by R x y z f = go (eqb R 0) refl
 pub writes-by : {A : Type 0} {rows : List Check} {result before after other : List A} {r : ℕ} → (refusal rows ≡ 0 → result ≡ other)
     → Writes rows result before r after → Writes rows other before r after
 writes-by {rows = rows} {before = before} f w = record { answered = w .answered; holds = w .holds ∙ pick-by (refusal rows) _ _ before f }
+
+-- ---- rows joined
+
+-- no row has this number
+abbrev pub away : ℕ → List Check → Bool
+away k [] = true
+away k (c ∷ cs) = not (eqb (c .number) k) && away k cs
+
+-- rows of other numbers change nothing
+pub applies-away : (rows more : List Check) (k : ℕ) → T (away k more) → applies (rows ++ more) k ≡ applies rows k
+applies-away [] [] k t = refl
+applies-away [] (d ∷ ds) k t =
+    let y = and-yes (not (eqb (d .number) k)) (away k ds) t in
+    go (eqb (d .number) k) (y .0) (applies-away [] ds k (y .1))
+  where
+    go : (b : Bool) → T (not b) → applies ds k ≡ false → pick b (applies ds k || d .fails) (applies ds k) ≡ false
+    go true t e = absurd t
+    go false t e = e
+applies-away (c ∷ cs) more k t =
+    ap (λ b. pick (eqb (c .number) k) (b || c .fails) b) (applies-away cs more k t)
+
+applies-part : (rows more : List Check) (k : ℕ) → applies (rows ++ more) k ≡ false → applies rows k ≡ false
+applies-part [] more k e = refl
+applies-part (c ∷ cs) more k e = go (eqb (c .number) k) e (applies-part cs more k)
+  where
+    go : (b : Bool) → pick b (applies (cs ++ more) k || c .fails) (applies (cs ++ more) k) ≡ false
+        → (applies (cs ++ more) k ≡ false → applies cs k ≡ false) → pick b (applies cs k || c .fails) (applies cs k) ≡ false
+    go true e rest = let n = neither (c .fails) (applies (cs ++ more) k) e in rw (rest (n .1), n .0)
+    go false e rest = rest e
+
+-- where a call has no refusal, the rows that it begins with have none
+pub passed-part : (rows more : List Check) → refusal (rows ++ more) ≡ 0 → refusal rows ≡ 0
+unfolding refusal firstIn
+passed-part rows more e = zero order (none (applies (rows ++ more)) order tt e)
+  where
+    zero : (ks : List ℕ) → None (applies (rows ++ more)) ks → firstIn (applies rows) ks ≡ 0
+    zero [] p = refl
+    zero (k ∷ ks) p = rw (applies-part rows more k (p .0)) (zero ks (p .1))
+
+-- ---- no refusal, so no condition holds
+
+abbrev pub NoneHolds : List Check → Type 0
+NoneHolds [] = Unit {0}
+NoneHolds (c ∷ cs) = (c .fails ≡ false) × NoneHolds cs
+
+-- each number of the rows stands in the order
+abbrev pub listed : List Check → Bool
+listed [] = true
+listed (c ∷ cs) = has (c .number) order && listed cs
+
+pub none-holds : (rows : List Check) → T (listed rows) → refusal rows ≡ 0 → NoneHolds rows
+none-holds rows t e = each rows t (passed rows e)
+  where
+    head : (n : ℕ) (b a : Bool) → pick (eqb n n) (b || a) b ≡ false → a ≡ false
+    head n b a e = neither a b (rw (eq-eqb n n refl) at e) .0
+
+    tail : (d b a : Bool) → pick d (b || a) b ≡ false → b ≡ false
+    tail true b a e = neither a b e .1
+    tail false b a e = e
+
+    each : (rows : List Check) → T (listed rows) → ((k : ℕ) → T (has k order) → applies rows k ≡ false) → NoneHolds rows
+    each [] t h = tt
+    each (c ∷ cs) t h =
+        let y = and-yes (has (c .number) order) (listed cs) t in (
+          head (c .number) (applies cs (c .number)) (c .fails) (h (c .number) (y .0)),
+          each cs (y .1) (λ k l. tail (eqb (c .number) k) (applies cs k) (c .fails) (h k l)),
+        )

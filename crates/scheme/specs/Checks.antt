@@ -43,11 +43,6 @@ firstIn f (k ∷ ks) = pick (f k) k (firstIn f ks)
 unfoldable pub refusal : List Check → ℕ
 refusal rows = firstIn (applies rows) order
 
--- the number of the first check that fails, or 0
-unfoldable pub firstOf : List Check → ℕ
-firstOf [] = 0
-firstOf (c ∷ cs) = pick (c .fails) (c .number) (firstOf cs)
-
 -- p holds of each element
 unfoldable pub allOf : {A : Type 0} → (A → Bool) → List A → Bool
 allOf p [] = true
@@ -85,9 +80,6 @@ basisRows w m b L =
     ∷ row (levelsFail (bits w m) b L) 5
     ∷ []
 
-abbrev pub basisRefusal : ℕ → Modulus → ℕ → ℕ → ℕ
-basisRefusal w m b L = firstOf (basisRows w m b L)
-
 -- "6. A dimension is 0 or above 2,048."
 abbrev pub dimensionFails : ℕ → Bool
 dimensionFails n = ltb n 1 || ltb 2048 n
@@ -104,9 +96,6 @@ smallFails t (Explicit q) = leb q t
 -- 2, 7 and 8, for every call that takes t
 abbrev pub codecRows : ℕ → Modulus → List Check
 codecRows t m = row (modulusFails m) 2 ∷ row (plaintextFails t) 7 ∷ row (smallFails t m) 8 ∷ []
-
-abbrev pub codecRefusal : ℕ → Modulus → ℕ
-codecRefusal t m = firstOf (codecRows t m)
 
 -- "9. A key has another length …", "10. A single ciphertext is not n + 1 words", "11. An output has the wrong length.",
 -- "12. Lent masks, errors or coefficients have the wrong length."
@@ -126,8 +115,8 @@ abbrev pub batchFails : ℕ → ℕ → Bool
 batchFails len n = not (eqb (len % (n + 1)) 0)
 
 -- "13. E is above 1,048,576, or not below q."
-abbrev pub boundFails : ℕ → ℕ → Bool
-boundFails q E = ltb 1048576 E || leb q E
+abbrev pub errorLimitFails : ℕ → ℕ → Bool
+errorLimitFails q E = ltb 1048576 E || leb q E
 
 -- "14. A word is not below q …"
 abbrev pub wordFails : ℕ → ℕ → Bool
@@ -161,12 +150,6 @@ messageFails t m = leb t m
 
 abbrev pub messagesFail : ℕ → List ℕ → Bool
 messagesFail t xs = wordsFail t xs
-
--- A call answers r, and a lent buffer that held `before` holds `after`: r is the first refusal, or 0, and the buffer holds
--- the result, or where the call was refused what it held before.
-pub record Answers {A : Type 0} (refusal : ℕ) (result before : List A) (r : ℕ) (after : List A) : Type 0 where
-  pub number : r ≡ refusal
-  pub written : after ≡ pick (eqb refusal 0) result before
 
 -- A call with these rows answers r, and a lent buffer that held `before` holds `after`: where no number applies r is 0 and the buffer
 -- holds the result; else r is the first number, and the buffer holds what it held.

@@ -2,43 +2,8 @@ use borrow.Author.Needs.{needs}
 use Rattle.digit_vectors.proofs.all.Statement.{statement}
 use Rattle.digit_vectors.proofs.all.Tie as tie
 
-abbrev Inv-loop : tie.InvT-loop
-Inv-loop fd s₀ turns₀ s turns = Unit {0}
-
-abbrev μ-loop : tie.MeasureT-loop
-μ-loop fd s₀ turns₀ s turns = turns
-
-loop-holds : tie.Need-loop-holds Inv-loop μ-loop
-loop-holds c = search needs
-
-one-requires : tie.Need-one-requires Inv-loop μ-loop
-one-requires c κs = search needs
-
-returns : tie.Need-returns Inv-loop μ-loop
-returns c = search needs
-
-sub-turns : tie.Need-sub-turns Inv-loop μ-loop
-sub-turns c = search needs
-
-loop-less : tie.Need-loop-less Inv-loop μ-loop
-loop-less c = search needs
-
-loop-again : tie.Need-loop-again Inv-loop μ-loop
-loop-again c = search needs
-
-returns-2 : tie.Need-returns-2 Inv-loop μ-loop
-returns-2 c = search needs
-
 pub all-spec : {M : Type 1} → statement M
 all-spec =
     tie.close
-    (tie.spec
-    Inv-loop
-    μ-loop
-    loop-holds
-    one-requires
-    returns
-    sub-turns
-    loop-less
-    loop-again
-    returns-2)
+    (tie.spec (λ fd s₀ turns₀ s turns. Unit {0}) (λ fd s₀ turns₀ s turns. turns) (λ c. tt) (λ c κs. tt) (λ c. tt) (λ c. search needs)
+    (λ c. search needs) (λ c. tt) (λ c. tt))

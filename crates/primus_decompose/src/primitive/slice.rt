@@ -1,97 +1,25 @@
 // The digits of a word, and of a slice of words: L runs, lowest level first.
-ghost use mathlib.Core.Path.{_≡_};
-ghost use Prim.Native.Nat.{_+_, _*_, _<_, _≤_};
-ghost use lib.ListN.{length};
-ghost use Rattle.scheme.specs.Digits.{digitsOf, runsOf};
-ghost use Rattle.scheme.specs.Checks.{Answers};
-ghost use Rattle.primus_reduce.specs.Ring.{sizeOf};
-ghost use Rattle.primus_decompose.specs.Answers.{basis, decomposeRefusal, sliceRefusal};
-ghost use Rattle.primus_decompose.specs.Params.{Ready, basisIn};
-ghost use Rattle.primus_decompose.specs.Column.{Column, Words};
+ghost use Rattle.primus_decompose.specs.Answers.{Decomposes, DecomposesSlice};
 use crate::primitive::basis::ApproxSignedBasis;
-use crate::primitive::common::SignedDecomposer;
-use crate::primitive::params;
-use crate::primitive::params::PreparedBasis;
-
-// Writes the digits of one word at place i of each of the `levels` runs of `count` words.
-fn write_column(out: &mut [u32], start: SignedDecomposer, levels: usize, count: usize, i: usize)
-    requires { ⌜ (length (now out) ≡ levels * count) × (i < count) ⌝ }
-    ensures { λ _. ⌜ Column start levels count i (now (out .entry)) (now (out .exit)) ⌝ }
-{
-    let mut d = start;
-    let mut j = 0;
-    while j < levels {
-        let s = d.step();
-        out[j * count + i] = s.digit;
-        d = s.next;
-        j += 1;
-    }
-}
-
-// Writes the digits of every word.
-fn write_columns(out: &mut [u32], values: &[u32], p: PreparedBasis)
-    requires { ⌜ Ready p × Words (sizeOf (p .modulus)) (now values) × (length (now out) ≡ p .«level_count» * length (now values)) ⌝ }
-    ensures { λ _. ⌜ now (out .exit) ≡ runsOf (basisIn p) (now (values .entry)) ⌝ }
-{
-    let levels = p.level_count;
-    let mut i = 0;
-    while i < values.len() {
-        let d = params::decomposer(p, values[i]);
-        write_column(out, d, levels, values.len(), i);
-        i += 1;
-    }
-}
 
 impl ApproxSignedBasis {
     // The L digits of a word, lowest first, a negative one as q + digit. Refuses by 1 to 5, 11, 14.
     pub fn decompose(self, value: u32, digits: &mut [u32]) -> u32
-        ensures { λ r. ⌜ Answers (decomposeRefusal self value (length (now (digits .entry)))) (digitsOf (basis self) value) (now (digits .entry)) r (now (digits .exit)) ⌝ }
+        ensures { λ r. ⌜ Decomposes self value (now (digits .entry)) r (now (digits .exit)) ⌝ }
     {
-        let r = self.decompose_refusal(value, digits.len());
-        if r != 0 {
-            return r;
-        }
-        let levels = self.level_count();
-        let d = params::decomposer(self.prepared(), value);
-        write_column(digits, d, levels.get(), 1, 0);
-        0
+        let values = [value];
+        self.decompose_slice_to(&values, digits)
     }
 
     // The digits of each word: L runs, lowest level first. Refuses by 1 to 5, 11, 14.
     pub fn decompose_slice_to(self, values: &[u32], digits: &mut [u32]) -> u32
-        ensures { λ r. ⌜ Answers (sliceRefusal self (now (values .entry)) (length (now (digits .entry)))) (runsOf (basis self) (now (values .entry))) (now (digits .entry)) r (now (digits .exit)) ⌝ }
+        ensures { λ r. ⌜ DecomposesSlice self (now (values .entry)) (now (digits .entry)) r (now (digits .exit)) ⌝ }
     {
         let r = self.slice_refusal(values, digits.len());
         if r != 0 {
             return r;
         }
-        write_columns(digits, values, self.prepared());
+        gadget_constants::write_columns(digits, values, self.prepared());
         0
-    }
-
-    // 1 to 5, 11, 14
-    fn decompose_refusal(self, value: u32, len: usize) -> u32
-        ensures { λ r. ⌜ r ≡ decomposeRefusal self value len ⌝ }
-    {
-        let levels = self.level_count();
-        let r = checks::refuse(
-            self.refusal(),
-            checks::length_differs(len, levels.get()),
-            11,
-        );
-        checks::refuse(r, checks::word_refused(self.modulus(), value), 14)
-    }
-
-    // 1 to 5, 11, 14
-    fn slice_refusal(self, values: &[u32], len: usize) -> u32
-        ensures { λ r. ⌜ r ≡ sliceRefusal self (now (values .entry)) len ⌝ }
-    {
-        let levels = self.level_count();
-        let r = checks::refuse(
-            self.refusal(),
-            checks::runs_differ(len, levels.get(), values.len()),
-            11,
-        );
-        checks::refuse(r, checks::words_refused(self.modulus(), values), 14)
     }
 }

@@ -28,7 +28,7 @@ returns c =
     ▹ (r3 .refuse3 .ensures, r3 .before .key-differs .ensures)
     ▹ (r4 .refuse4 .ensures, r4 .before .masks-differ .ensures)
     ▹ (r5 .refuse5 .ensures, r5 .before .runs-differ .ensures)
-    ▹ (r6 .refuse6 .ensures, r6 .before .bound-refused .ensures)
+    ▹ (r6 .refuse6 .ensures, r6 .before .error-limit-refused .ensures)
     ▹ (r7 .refuse7 .ensures, refl)
     ▹ (r8 .refuse8 .ensures, r8 .before .words-refused .ensures)
     ▹ (r9 .refuse9 .ensures, r9 .before .words-refused2 .ensures)

@@ -1,4 +1,3 @@
-use mathlib.Core.Path.{_∙_}
 use borrow.Author.Tests.{eq-eqb, ne-eqb}
 use Rattle.readings_core.proofs.command.answer.Statement.{statement}
 use Rattle.readings_core.proofs.command.answer.Tie as tie

@@ -1,5 +1,3 @@
-use mathlib.Core.Path.{ap, _∙_}
-use borrow.Author.Needs.{needs}
 use Rattle.readings_core.proofs.command.basis_line.Statement.{statement}
 use Rattle.readings_core.proofs.command.basis_line.Tie as tie
 

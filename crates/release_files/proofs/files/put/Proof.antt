@@ -6,14 +6,9 @@ use borrow.Author.Needs.{needs}
 use Rattle.release_files.proofs.files.put.Statement.{statement}
 use Rattle.release_files.proofs.files.put.Tie as tie
 
-abbrev Inv-loop : tie.InvT-loop
-Inv-loop out₀ at s i₀ k₀ out i k = (i ≤ length s) × (length out ≡ length out₀)
-
-abbrev μ-loop : tie.MeasureT-loop
-μ-loop out₀ at s i₀ k₀ out i k = length s - i
-
 pub put-spec : {M : Type 1} → statement M
 put-spec =
     tie.close
-    (tie.spec Inv-loop μ-loop (λ c. (omega arith, refl)) (λ c. omega arith) (λ c κs. tt) (λ c κs. tt) (λ c. omega arith) (λ c. omega arith)
-    (λ c. search needs) (λ c. search needs) (λ c. tt))
+    (tie.spec (λ out₀ at s i₀ k₀ out i k. (i ≤ length s) × (length out ≡ length out₀))
+    (λ out₀ at s i₀ k₀ out i k. length s - i) (λ c. (omega arith, refl)) (λ c. omega arith) (λ c κs. tt)
+    (λ c κs. tt) (λ c. omega arith) (λ c. omega arith) (λ c. search needs) (λ c. search needs) (λ c. tt))

@@ -1,65 +1,62 @@
 use mathlib.Core.Path.{_≡_, refl, sym, ap, _∙_}
-use mathlib.Core.Bool.{Bool, true, false}
 use mathlib.Core.List.{List, [], _∷_}
 use Prim.Native.Nat.{ℕ}
-use native.Mathlib.Omega.{arith}
-use lib.Dec.{eqb}
 use lib.ListN.{length}
-use borrow.Author.Tests.{eqb-true, eqb-false}
-use Rattle.scheme.specs.Numbers.{pick}
+use borrow.Author.Needs.{needs}
+use borrow.Author.Tests.{eq-eqb}
 use Rattle.scheme.specs.Reading.{threshold}
-use Rattle.scheme.specs.Checks.{row, firstOf, lengthFails, Answers}
-use Rattle.checks.proofs.Table.{refused}
-use Rattle.primus_decompose.specs.declared.error.WordAnswer.the-variants as W
+use Rattle.scheme.specs.Checks.{refusal, row, lengthFails, firstIn}
+use Rattle.scheme.proofs.Checks.{length-ok}
+use Rattle.scheme.proofs.Order.{passed, passed-part, only, refused, done}
 use Rattle.primus_decompose.specs.declared.primitive.basis.ApproxSignedBasis.{ApproxSignedBasis}
 use Rattle.primus_decompose.specs.Answers.{basis, rows, thresholdAnswer}
-use Rattle.saigagalena.specs.Bases.{constants, basisWords, basisTable}
-use Rattle.saigagalena.proofs.Numbers.{First, first-of}
-use Rattle.saigagalena.proofs.Bases.{first-passed}
-use borrow.Author.Needs.{needs}
+use Rattle.primus_encoding.specs.Answers.{orZero}
+use Rattle.saigagalena.specs.Bases.{sized, outputRows, constants}
 use Rattle.saigagalena.proofs.basis.write_basis.Statement.{statement}
 use Rattle.saigagalena.proofs.basis.write_basis.Tie as tie
 
-module _ (b : ApproxSignedBasis) where
-  -- T is told where none of 1 to 5 applies
-  word-told : (t : ℕ) → thresholdAnswer b ≡ W.Word t → (firstOf (rows b) ≡ 0) × (t ≡ threshold (basis b))
-  word-told t e = go (eqb (firstOf (rows b)) 0) refl e
-    where
-      go : (x : Bool) → eqb (firstOf (rows b)) 0 ≡ x → pick x (W.Word (threshold (basis b))) (W.Refused (firstOf (rows b))) ≡ W.Word t
-          → (firstOf (rows b) ≡ 0) × (t ≡ threshold (basis b))
-      go true h e = let z : threshold (basis b) ≡ t = cc in (eqb-true (firstOf (rows b)) 0 h, sym z)
-      go false h e = let z : _≡_ {A = ℕ} 0 1 = cc in absurd (omega arith)
+module _ (b : ApproxSignedBasis) (room : ℕ) where
+  -- no values are judged
+  whole : {r : ℕ} → sized b room 6 r → r ≡ refusal (outputRows b room 6)
+  unfolding firstIn
+  whole e = only (outputRows b room 6) e refl
 
-  refusal-told : (r : ℕ) → thresholdAnswer b ≡ W.Refused r → First (rows b) r
-  refusal-told r e = go (eqb (firstOf (rows b)) 0) refl e
-    where
-      go : (x : Bool) → eqb (firstOf (rows b)) 0 ≡ x → pick x (W.Word (threshold (basis b))) (W.Refused (firstOf (rows b))) ≡ W.Refused r → First (rows b) r
-      go true h e = let z : _≡_ {A = ℕ} 0 1 = cc in absurd (omega arith)
-      go false h e = let z : firstOf (rows b) ≡ r = cc in first-of (rows b) z (λ y. eqb-false (firstOf (rows b)) 0 h (z ∙ y))
+  fits : refusal (outputRows b room 6) ≡ 0 → room ≡ 6
+  fits e = length-ok room 6 (passed (outputRows b room 6) e 11 tt)
 
-  -- the check of the length is all that is left
-  of : {t : ℕ} → (firstOf (rows b) ≡ 0) × (t ≡ threshold (basis b)) → (before : List ℕ) {r : ℕ} {after : List ℕ}
-      → Answers (firstOf (row (lengthFails (length before) 6) 11 ∷ [])) (constants b t) before r after
-      → Answers (firstOf (basisTable b (length before))) (basisWords b) before r after
-  of {t} (h, e) before {r} {after} x =
-      rw (first-passed (rows b) (row (lengthFails (length before) 6) 11 ∷ []) tt h, sym e) x
+  told : refusal (outputRows b room 6) ≡ 0 → orZero (thresholdAnswer b) ≡ threshold (basis b)
+  told e = rw (eq-eqb (refusal (rows b)) 0 (passed-part (rows b) (row (lengthFails room 6) 11 ∷ []) e))
+
+abbrev start : tie.After-sizes-refusal → tie.Start
+start c = c .before .before
+
+number : (c : tie.After-sizes-refusal) → c .sizes-refusal .result ≡ refusal (outputRows (start c .args .basis) (length (start c .args .out .now)) 6)
+number c = whole (start c .args .basis) (length (start c .args .out .now)) (c .sizes-refusal .ensures)
+
+none : (e : tie.Else1) → refusal (outputRows (start (e .before) .args .basis) (length (start (e .before) .args .out .now)) 6) ≡ 0
+none e = sym (number (e .before)) ∙ e .if1 .left
 
 returns : tie.Need-returns
-returns c =
-    let w = c .before .before in
-    let t = w .before .before .before in
-    let d = t .before .before in
-    let a = d .before .before .args in
-    of (a .basis) (word-told (a .basis) _ (sym (d .threshold .ensures) ∙ t .threshold2 .given .1)) (a .out .now) (w .write-constants .ensures)
+returns c = record { writes = refused (number (c .before)) (c .if1 .taken) }
+
+write-constants-requires : tie.Need-write-constants-requires
+write-constants-requires c κs =
+    let e = c .before .before .before in
+    fits (start (e .before) .args .basis) (length (start (e .before) .args .out .now)) (none e)
 
 returns-2 : tie.Need-returns-2
 returns-2 c =
-    let r = c .before in
-    let d = r .before .before in
-    let a = d .before .before .args in
-    let f = refusal-told (a .basis) _ (sym (d .threshold .ensures) ∙ r .r .given .1) in
-    refused (f .of _) (f .positive)
+    let w = c .before .before in
+    let z = w .before .before in
+    let e = z .before .before in
+    let a = start (e .before) .args in
+    record {
+      writes =
+          done (none e)
+          (w .write-constants .ensures
+          ∙ ap (λ t. constants (a .basis) t) (z .or-zero .ensures ∙ ap orZero (z .before .threshold .ensures) ∙ told (a .basis) (length (a .out .now)) (none e)));
+    }
 
 pub write-basis-spec : {M : Type 1} → statement M
 write-basis-spec =
-    tie.close (tie.spec (λ c κs. tt) (λ c. search needs) (λ c κs. tt) (λ c. search needs) (λ c. search needs) returns returns-2)
+    tie.close (tie.spec (λ c κs. tt) returns (λ c κs. tt) (λ c κs. tt) write-constants-requires (λ c. search needs) returns-2)

@@ -4,7 +4,6 @@ use Prim.Native.Nat.{_-_, _*_}
 use Rattle.scheme.specs.Basis.{dropped}
 use Rattle.scheme.proofs.Modulus.{bits-most}
 use Rattle.primus_reduce.specs.Ring.{meant}
-use borrow.Author.Needs.{needs}
 use Rattle.primus_decompose.proofs.primitive.basis.ApproxSignedBasis.drop_bits.Statement.{statement}
 use Rattle.primus_decompose.proofs.primitive.basis.ApproxSignedBasis.drop_bits.Tie as tie
 

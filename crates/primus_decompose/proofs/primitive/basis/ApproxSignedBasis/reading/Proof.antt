@@ -1,30 +1,23 @@
-use mathlib.Core.Path.{ap, sym, _∙_}
-use borrow.Author.Needs.{needs}
-use Rattle.primus_decompose.specs.declared.error.ReadingAnswer.the-variants.{Read}
-use Rattle.primus_decompose.specs.Answers.{readingOf}
-use Rattle.primus_decompose.proofs.Answers.{word-passed, answer-refused, answered}
+use Rattle.scheme.proofs.Order.{told}
+use Rattle.gadget_constants.specs.Word.{readingOf}
+use Rattle.primus_decompose.specs.declared.error.ReadingAnswer.the-variants.{Read, Refused}
+use Rattle.primus_decompose.proofs.Answers.{Passed, passes}
 use Rattle.primus_decompose.proofs.primitive.basis.ApproxSignedBasis.reading.Statement.{statement}
 use Rattle.primus_decompose.proofs.primitive.basis.ApproxSignedBasis.reading.Tie as tie
 
 returns : tie.Need-returns
-returns c = rw (← (c .before .word-refusal .ensures)) (answer-refused _ _ _ (c .if1 .taken))
+returns c = told Refused _ _ _ (c .before .word-refusal .ensures) (c .if1 .taken)
 
-prepared-requires : tie.Need-prepared-requires
-prepared-requires c κs =
-    let w = c .before in
-    word-passed (w .before .args .self) (w .before .args .value) (sym (w .word-refusal .ensures) ∙ c .if1 .left) .0
-
-read-requires : tie.Need-read-requires
-read-requires c κs =
-    let w = c .before .before in
-    let e = c .prepared .ensures in
-    (e .0, rw (e .2) (word-passed (w .before .args .self) (w .before .args .value) (sym (w .word-refusal .ensures) ∙ c .before .if1 .left) .1))
+word : (c : tie.Else1) → let a = c .before .before .args in Passed (a .self) (a .value)
+word c = passes (c .before .word-refusal .ensures) (c .if1 .left)
 
 returns-2 : tie.Need-returns-2
 returns-2 c =
     let p = c .before in
-    let w = p .before .before in
-    answered Read _ _ _ _ (c .read .ensures ∙ ap (λ b. readingOf b (w .before .args .value)) (p .prepared .ensures .1)) (sym (w .word-refusal .ensures) ∙ p .before .if1 .left)
+    let a = p .before .before .before .args .value in
+    word (p .before) .answer Read (λ b. readingOf b a) _ (p .prepared .ensures) (c .read .ensures)
 
 pub reading-spec : {M : Type 1} → statement M
-reading-spec = tie.close (tie.spec (λ c κs. tt) returns prepared-requires read-requires returns-2)
+reading-spec =
+    tie.close
+    (tie.spec (λ c κs. tt) returns (λ c κs. word c .judged) (λ c κs. word (c .before) .ready (c .prepared .ensures)) returns-2)

@@ -1,28 +1,25 @@
-use mathlib.Core.Path.{ap, _∙_}
-use Prim.Native.Nat.{_*_}
-use mathlib.Core.List.{[], _∷_, _++_}
-use lib.ListN.{length}
-use Rattle.scheme.specs.Checks.{row, lengthFails, wordsFail}
-use Rattle.primus_reduce.specs.Ring.{sizeOf}
-use Rattle.checks.proofs.Table.{after, _▹_, first}
-use Rattle.primus_decompose.specs.Answers.{rows}
+use mathlib.Core.List.{List}
+use borrow.Author.Needs.{needs}
+use Rattle.scheme.specs.Checks.{Check}
+use Rattle.scheme.proofs.Order.{Sized, early, late}
+use Rattle.primus_decompose.specs.Answers.{sliceRows}
 use Rattle.primus_decompose.proofs.primitive.basis.ApproxSignedBasis.slice_refusal.Statement.{statement}
 use Rattle.primus_decompose.proofs.primitive.basis.ApproxSignedBasis.slice_refusal.Tie as tie
 
+abbrev rows : tie.After-first → List Check
+rows c = let a = c .before .before .before .before .before .args in sliceRows (a .self) (a .values .now) (a .room)
+
+sized : (c : tie.After-first) → Sized (rows c) (c .first .result)
+sized c = c .first .ensures (rows c) (record { basis = search needs; parameters = search needs; lengths = search needs })
+
 returns : tie.Need-returns
-returns c =
-    let w = c .before in
-    let m = w .before in
-    let f = m .before in
-    let d = f .before in
-    let g = d .before in
-    let b = g .before in
-    let a = b .before .before .before .args in
-    let n = g .get .ensures ∙ ap (λ x. x .0) (b .before .level-count .ensures) in
-    first (rows (a .self) ++ row (lengthFails (a .len) (a .self .«level_count» .0 * length (a .values .now))) 11 ∷ row (wordsFail (sizeOf (a .self .modulus)) (a .values .now)) 14 ∷ []) tt
-    (after (rows (a .self)) tt (b .refusal .ensures)
-    ▹ (f .refuse .ensures, d .runs-differ .ensures ∙ ap (λ x. lengthFails (a .len) (x * length (a .values .now))) n)
-    ▹ (c .refuse2 .ensures, w .words-refused .ensures ∙ ap (λ q. wordsFail (sizeOf q) (a .values .now)) (m .modulus .ensures)))
+returns c = early (rows (c .before)) (sized (c .before)) (c .if1 .taken)
+
+returns-2 : tie.Need-returns-2
+returns-2 c =
+    let e = c .before .before in
+    let r = rows (e .before) in
+    late r (sized (e .before)) (e .if1 .left) (c .first2 .ensures r (search needs))
 
 pub slice-refusal-spec : {M : Type 1} → statement M
-slice-refusal-spec = tie.close (tie.spec (λ c κs. tt) (λ c κs. tt) (λ c κs. tt) (λ c κs. tt) (λ c κs. tt) (λ c κs. tt) (λ c κs. tt) (λ c κs. tt) returns)
+slice-refusal-spec = tie.close (tie.spec (λ c κs. tt) (λ c κs. tt) (λ c κs. tt) returns (λ c κs. tt) (λ c κs. tt) returns-2)

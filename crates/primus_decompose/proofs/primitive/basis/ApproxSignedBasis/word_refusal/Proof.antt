@@ -1,17 +1,25 @@
-use mathlib.Core.List.{[], _∷_, _++_}
-use Rattle.scheme.specs.Checks.{row, wordFails}
-use Rattle.primus_reduce.specs.Ring.{sizeOf}
-use Rattle.checks.proofs.Table.{after, _▹_, first}
-use Rattle.primus_decompose.specs.Answers.{rows}
+use mathlib.Core.List.{List}
+use borrow.Author.Needs.{needs}
+use Rattle.scheme.specs.Checks.{Check}
+use Rattle.scheme.proofs.Order.{Sized, early, late}
+use Rattle.primus_decompose.specs.Answers.{wordRows}
 use Rattle.primus_decompose.proofs.primitive.basis.ApproxSignedBasis.word_refusal.Statement.{statement}
 use Rattle.primus_decompose.proofs.primitive.basis.ApproxSignedBasis.word_refusal.Tie as tie
 
+abbrev rows : tie.After-first → List Check
+rows c = let a = c .before .before .args in wordRows (a .self) (a .value)
+
+sized : (c : tie.After-first) → Sized (rows c) (c .first .result)
+sized c = c .first .ensures (rows c) (record { basis = search needs; parameters = search needs; lengths = search needs })
+
 returns : tie.Need-returns
-returns c =
-    let w = c .before in
-    let a = w .before .before .args in
-    first (rows (a .self) ++ row (wordFails (sizeOf (a .self .modulus)) (a .value)) 14 ∷ []) tt
-    (after (rows (a .self)) tt (w .before .refusal .ensures) ▹ (c .refuse .ensures, w .word-refused .ensures))
+returns c = early (rows (c .before)) (sized (c .before)) (c .if1 .taken)
+
+returns-2 : tie.Need-returns-2
+returns-2 c =
+    let e = c .before .before in
+    let r = rows (e .before) in
+    late r (sized (e .before)) (e .if1 .left) (c .first2 .ensures r (search needs))
 
 pub word-refusal-spec : {M : Type 1} → statement M
-word-refusal-spec = tie.close (tie.spec (λ c κs. tt) (λ c κs. tt) (λ c κs. tt) returns)
+word-refusal-spec = tie.close (tie.spec (λ c κs. tt) (λ c κs. tt) returns (λ c κs. tt) (λ c κs. tt) returns-2)

@@ -1,0 +1,4 @@
+pub mod Adjusted
+pub mod Walk
+pub mod Steps
+pub mod Columns

@@ -1,9 +1,0 @@
-use borrow.Author.Needs.{needs}
-use Rattle.primus_decompose.proofs.primitive.params.base_refused.Statement.{statement}
-use Rattle.primus_decompose.proofs.primitive.params.base_refused.Tie as tie
-
-returns-2 : tie.Need-returns-2
-returns-2 c = rw (c .before .before .modulus .given .1) (c .below-basis .ensures)
-
-pub base-refused-spec : {M : Type 1} → statement M
-base-refused-spec = tie.close (tie.spec (λ c. search needs) (λ c. search needs) (λ c κs. tt) (λ c. search needs) returns-2)
