@@ -13,22 +13,13 @@ use Rattle.scheme.specs.Checks.{refusal, messageFails, messagesFail}
 use Rattle.scheme.proofs.Residue.{residue-lt}
 use Rattle.scheme.proofs.Checks.{words-ok}
 use Rattle.scheme.proofs.Order.{passed}
-use Rattle.primus_reduce.specs.Ring.{meant, sizeOf}
-use Rattle.primus_reduce.specs.declared.modulus.Modulus.{Modulus}
+use Rattle.primus_reduce.specs.Ring.{sizeOf}
 use Rattle.primus_encoding.specs.Answers.{encodeWord, encodeAnswer, decodeAnswer, orZero}
 use Rattle.primus_encoding.specs.declared.PlaintextEmbedding.{PlaintextEmbedding}
 use Rattle.primus_encoding.proofs.Laws.{encode-passed, decode-passed}
-use Rattle.primus_lwe.specs.declared.parameter.LweEncryptionParameters.{LweEncryptionParameters}
 use Rattle.primus_lwe.specs.declared.parameter.LweParameters.{LweParameters}
 use Rattle.primus_lwe.specs.Answers.{Codable, encoded, encodings, messageRows, decryptRows}
 use Rattle.primus_lwe.proofs.Laws.{Encryptable, lent-ok, Phasable, phase-ok}
-
--- the parameters with the dimension that `get` gave
-abbrev pub with-dimension : LweEncryptionParameters → ℕ → LweEncryptionParameters
-with-dimension P n = record { dimension = record { 0 = n }; modulus = P .modulus; «error_limit» = P .«error_limit» }
-
-abbrev pub with-dimension-t : LweParameters → ℕ → LweParameters
-with-dimension-t P n = record { dimension = record { 0 = n }; modulus = P .modulus; «plaintext_modulus» = P .«plaintext_modulus»; «error_limit» = P .«error_limit» }
 
 -- what the codec answers
 module _ (P : LweParameters) (ok : Codable P) where

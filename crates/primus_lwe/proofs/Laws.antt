@@ -14,7 +14,7 @@ use lib.Seq.{getD-at, length-take-le}
 use borrow.Author.Tests.{ne-eqb, eqb-false}
 use Rattle.scheme.specs.Numbers.{pick, residue, Cong, sumTo}
 use Rattle.scheme.specs.Lwe.{Key, Words, Signed, secretOf, keyLength, words, signed, inner, bodyOf, encrypted, phaseOf}
-use Rattle.scheme.specs.Checks.{refusal, modulusFails, lengthFails}
+use Rattle.scheme.specs.Checks.{Check, applies, refusal, firstIn, modulusFails, plaintextFails, smallFails, lengthFails}
 use Rattle.scheme.proofs.Residue.{cong-refl, cong-of-eq, cong-trans, cong-add, residue-cong}
 use Rattle.scheme.proofs.Lwe.{cong-sub, stands}
 use Rattle.scheme.proofs.Checks.{modulus-ok, length-ok}
@@ -23,7 +23,8 @@ use Rattle.primus_reduce.specs.Ring.{meant, sizeOf, modulo}
 use Rattle.primus_reduce.specs.Dot.{dot, dotSigned}
 use Rattle.primus_reduce.specs.declared.modulus.Modulus.{Modulus}
 use Rattle.primus_lwe.specs.declared.parameter.LweEncryptionParameters.{LweEncryptionParameters}
-use Rattle.primus_lwe.specs.Answers.{encryptRows, phaseRows, replaced}
+use Rattle.primus_lwe.specs.declared.parameter.LweParameters.{LweParameters}
+use Rattle.primus_lwe.specs.Answers.{encryptionParametersRows, parametersRows, judgedRows, encryptRows, phaseRows, replaced}
 
 -- the word that a reduction gives stands for its number
 pub modulo-stands : {q w : ℕ} → 0 < q → (z : ℤ) → w ≡ modulo q z → Cong q (pos w) z
@@ -84,6 +85,24 @@ module _ (a : List ℕ) (b : ℕ) where
 
   pub made-body : (i : ℕ) → i ≡ length a → b ≡ getD (a ++ (b ∷ [])) i 0
   made-body i e = sym (getD-at a b [] 0 i (sym e))
+
+-- ---- one function judges a call that takes t and one that does not
+
+pub judged-without : (more : List Check) (P : LweEncryptionParameters) → applies more 7 ≡ false → applies more 8 ≡ false
+    → refusal (judgedRows false false P ++ more) ≡ refusal (encryptionParametersRows P ++ more)
+unfolding refusal firstIn
+judged-without more P seven eight = rw (seven, eight)
+
+abbrev encryptionOf : LweParameters → LweEncryptionParameters
+encryptionOf P = record { dimension = P .dimension; modulus = P .modulus; «error_limit» = P .«error_limit» }
+
+pub judged-with : (more : Modulus → ℕ → List Check) (P : LweParameters) {Q : LweEncryptionParameters} {b s : Bool} → Q ≡ encryptionOf P
+    → b ≡ plaintextFails (P .«plaintext_modulus») → s ≡ smallFails (P .«plaintext_modulus») (meant (P .modulus))
+    → refusal (judgedRows b s Q ++ more (Q .modulus) (Q .dimension .0)) ≡ refusal (parametersRows P ++ more (P .modulus) (P .dimension .0))
+unfolding refusal firstIn
+judged-with more P {Q} {b} {s} eq eb es =
+    ap (λ Q. refusal (judgedRows b s Q ++ more (Q .modulus) (Q .dimension .0))) eq
+    ∙ ap₂ (λ b s. refusal (judgedRows b s (encryptionOf P) ++ more (P .modulus) (P .dimension .0))) eb es
 
 -- ---- what the checks leave
 

@@ -11,6 +11,7 @@ use Rattle.scheme.specs.Lwe.{Key, secretOf, keyLength, encrypted, phaseOf}
 use Rattle.scheme.specs.Codec.{decode}
 use Rattle.scheme.specs.Checks.{Check, row, refusal, Writes, modulusFails, dimensionFails, plaintextFails, smallFails, lengthFails, errorLimitFails, wordFails, wordsFail, keyFails, errorsFail, messageFails}
 use Rattle.primus_reduce.specs.Ring.{meant, sizeOf}
+use Rattle.primus_reduce.specs.declared.modulus.Modulus.{Modulus}
 use Rattle.primus_encoding.specs.declared.PlaintextEmbedding.{PlaintextEmbedding}
 use Rattle.primus_encoding.specs.Answers.{encodeWord}
 use Rattle.checks.specs.Answers.{wordAnswer}
@@ -44,6 +45,10 @@ parametersRows P =
     ∷ row (errorLimitFails (sizeOf (P .modulus)) (P .«error_limit»)) 13
     ∷ []
 
+-- 2, 6 and 13, with what a call says of 7 and 8: false where it takes no t
+abbrev pub judgedRows : Bool → Bool → LweEncryptionParameters → List Check
+judgedRows plaintext small P = row plaintext 7 ∷ row small 8 ∷ encryptionParametersRows P
+
 abbrev pub parametersAnswer : LweParameters → LweParametersAnswer
 parametersAnswer P =
     let r = refusal (parametersRows P) in
@@ -71,15 +76,17 @@ pub record Encrypts (P : LweEncryptionParameters) (key : Key) (a : List ℕ) (es
       Writes (encryptRows P key a es p (length before))
       (encrypted (sizeOf (P .modulus)) (P .dimension .0) a (secretOf key) (getD es 0 (pos 0)) (pos p)) before r after
 
--- a phase of the ciphertext x
-abbrev pub phaseRows : LweEncryptionParameters → Key → List ℕ → List Check
-phaseRows P key x =
-    encryptionParametersRows P
-    ++ row (lengthFails (keyLength key) (P .dimension .0)) 9
-    ∷ row (lengthFails (length x) (P .dimension .0 + 1)) 10
-    ∷ row (keyFails (sizeOf (P .modulus)) key) 14
-    ∷ row (wordsFail (sizeOf (P .modulus)) x) 14
+-- what a phase and a decryption of the ciphertext x are judged by besides their parameters
+abbrev pub ciphertextRows : Modulus → ℕ → Key → List ℕ → List Check
+ciphertextRows m n key x =
+    row (lengthFails (keyLength key) n) 9
+    ∷ row (lengthFails (length x) (n + 1)) 10
+    ∷ row (keyFails (sizeOf m) key) 14
+    ∷ row (wordsFail (sizeOf m) x) 14
     ∷ []
+
+abbrev pub phaseRows : LweEncryptionParameters → Key → List ℕ → List Check
+phaseRows P key x = encryptionParametersRows P ++ ciphertextRows (P .modulus) (P .dimension .0) key x
 
 -- "Phase = b − ⟨a, s⟩"
 pub record TakesPhase (P : LweEncryptionParameters) (key : Key) (x : List ℕ) (answer : WordAnswer) : Type 0 where
@@ -112,15 +119,8 @@ pub record EncryptsMessage (P : LweParameters) (g : PlaintextEmbedding) (key : K
       Writes (messageRows P key a es x (length before))
       (encrypted (sizeOf (P .modulus)) (P .dimension .0) a (secretOf key) (getD es 0 (pos 0)) (encoded g P x)) before r after
 
--- a decryption of the ciphertext x
 abbrev pub decryptRows : LweParameters → Key → List ℕ → List Check
-decryptRows P key x =
-    parametersRows P
-    ++ row (lengthFails (keyLength key) (P .dimension .0)) 9
-    ∷ row (lengthFails (length x) (P .dimension .0 + 1)) 10
-    ∷ row (keyFails (sizeOf (P .modulus)) key) 14
-    ∷ row (wordsFail (sizeOf (P .modulus)) x) 14
-    ∷ []
+decryptRows P key x = parametersRows P ++ ciphertextRows (P .modulus) (P .dimension .0) key x
 
 -- the message is the decoded phase
 pub record Decrypts (P : LweParameters) (key : Key) (x : List ℕ) (answer : WordAnswer) : Type 0 where

@@ -10,7 +10,7 @@ ghost use Rattle.scheme.specs.Numbers.{residue};
 ghost use Rattle.scheme.specs.Checks.{refusal, lengthFails, wordFails, wordsFail, keyFails};
 ghost use Rattle.primus_reduce.specs.Ring.{sizeOf};
 ghost use Rattle.primus_lwe.specs.Key.{keyOf};
-ghost use Rattle.primus_lwe.specs.Answers.{encryptRows, Encrypts, phaseRows, TakesPhase};
+ghost use Rattle.primus_lwe.specs.Answers.{encryptRows, Encrypts, judgedRows, ciphertextRows, TakesPhase};
 use crate::parameter::LweEncryptionParameters;
 use crate::secret_key::form;
 use crate::secret_key::form::KeyForm;
@@ -215,19 +215,25 @@ pub fn encrypt_encoded_signed_to(
     )
 }
 
-fn phase_refusal(
+// What refuses a phase or a decryption; a call without t gives false for 7 and 8.
+pub(crate) fn decrypt_refusal(
     params: LweEncryptionParameters,
+    plaintext: bool,
+    small: bool,
     form: KeyForm,
     words: &[u32],
     signed: &[i32],
     ciphertext: &[u32],
 ) -> u32
-    ensures { λ r. ⌜ r ≡ refusal (phaseRows params (keyOf form (now (words .entry)) (now (signed .entry)))
-        (now (ciphertext .entry))) ⌝ }
+    ensures { λ r. ⌜ r ≡ refusal (judgedRows plaintext small params
+        ++ ciphertextRows (params .modulus) (params .dimension .0)
+        (keyOf form (now (words .entry)) (now (signed .entry))) (now (ciphertext .entry))) ⌝ }
 {
     let modulus = params.modulus;
     let dimension = params.dimension;
     let mut s = params.sizes();
+    s.plaintext = plaintext;
+    s.small = small;
     s.key = form::key_differs(form, words, signed, dimension);
     s.input = dimension.ciphertext_differs(ciphertext.len());
     let r = s.first();
@@ -268,7 +274,7 @@ fn phase_under(
     ensures { λ r. ⌜ TakesPhase params (keyOf form (now (words .entry)) (now (signed .entry)))
         (now (ciphertext .entry)) r ⌝ }
 {
-    let r = phase_refusal(params, form, words, signed, ciphertext);
+    let r = decrypt_refusal(params, false, false, form, words, signed, ciphertext);
     if r != 0 {
         return WordAnswer::Refused(r);
     }

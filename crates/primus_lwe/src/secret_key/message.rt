@@ -3,7 +3,7 @@ ghost use mathlib.Core.Path.{_≡_};
 ghost use Rattle.scheme.specs.Lwe.{Words, Signed};
 ghost use Rattle.scheme.specs.Checks.{refusal};
 ghost use Rattle.primus_lwe.specs.Key.{keyOf};
-ghost use Rattle.primus_lwe.specs.Answers.{messageRows, EncryptsMessage, decryptRows, Decrypts};
+ghost use Rattle.primus_lwe.specs.Answers.{messageRows, EncryptsMessage, Decrypts};
 use crate::parameter::LweParameters;
 use crate::secret_key::borrowed;
 use crate::secret_key::form;
@@ -141,30 +141,6 @@ pub fn encrypt_message_signed_to(
     )
 }
 
-fn decrypt_refusal(
-    params: LweParameters,
-    form: KeyForm,
-    words: &[u32],
-    signed: &[i32],
-    ciphertext: &[u32],
-) -> u32
-    ensures { λ r. ⌜ r ≡ refusal (decryptRows params (keyOf form (now (words .entry)) (now (signed .entry)))
-        (now (ciphertext .entry))) ⌝ }
-{
-    let modulus = params.modulus;
-    let dimension = params.dimension;
-    let mut s = params.sizes();
-    s.key = form::key_differs(form, words, signed, dimension);
-    s.input = dimension.ciphertext_differs(ciphertext.len());
-    let r = s.first();
-    if r != 0 {
-        return r;
-    }
-    let mut v = Values::NONE;
-    v.word = form::key_or_words_refused(form, modulus, words, signed, ciphertext);
-    v.first()
-}
-
 // A decryption under a key of either form.
 fn decrypt_under(
     params: LweParameters,
@@ -176,14 +152,26 @@ fn decrypt_under(
     ensures { λ r. ⌜ Decrypts params (keyOf form (now (words .entry)) (now (signed .entry)))
         (now (ciphertext .entry)) r ⌝ }
 {
-    let r = decrypt_refusal(params, form, words, signed, ciphertext);
+    let modulus = params.modulus;
+    let t = params.plaintext_modulus;
+    let plaintext = checks::plaintext_refused(t);
+    let small = checks::small_refused(t, modulus);
+    let encryption = params.encryption_parameters();
+    let r = borrowed::decrypt_refusal(
+        encryption,
+        plaintext,
+        small,
+        form,
+        words,
+        signed,
+        ciphertext,
+    );
     if r != 0 {
         return WordAnswer::Refused(r);
     }
     let n = params.dimension.get();
-    let modulus = params.modulus;
     let p = borrowed::phase(form, words, signed, ciphertext, n, modulus);
-    WordAnswer::Word(decode_or_zero(params.plaintext_modulus, modulus, p))
+    WordAnswer::Word(decode_or_zero(t, modulus, p))
 }
 
 // decode of the phase. Refuses by 2, 6, 7, 8, 9, 10, 13, 14.
