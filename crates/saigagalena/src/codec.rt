@@ -2,18 +2,16 @@
 ghost use mathlib.Core.Path.{_≡_};
 ghost use Rattle.primus_reduce.specs.Ring.{modulusFor};
 ghost use Rattle.primus_encoding.specs.Answers.{EncodesSlice, DecodesSlice};
-ghost use Rattle.saigagalena.specs.Numbers.{embeddingFor};
-ghost use Rattle.saigagalena.specs.Service.{encodeNumber, decodeNumber};
-use crate::answers;
-use crate::parameters;
+ghost use Rattle.c_numbers.specs.Numbers.{embeddingFor};
+ghost use Rattle.c_numbers.specs.Service.{encodeNumber, decodeNumber};
 
 // encode(m), or 2^32 plus the first of 2, 7, 8, 16 that applies.
 #[no_mangle]
 pub extern "C" fn saigagalena_encode(modulus: u32, t: u32, centered: u32, message: u32) -> u64
     ensures { λ r. ⌜ r ≡ encodeNumber modulus t centered message ⌝ }
 {
-    let codec = parameters::codec_for(modulus, t);
-    answers::word_number(codec.encode_value(message, parameters::embedding_for(centered)))
+    let codec = c_numbers::codec_for(modulus, t);
+    c_numbers::word_number(codec.encode_value(message, c_numbers::embedding_for(centered)))
 }
 
 // decode(word), or 2^32 plus the first of 2, 7, 8, 14 that applies.
@@ -21,8 +19,8 @@ pub extern "C" fn saigagalena_encode(modulus: u32, t: u32, centered: u32, messag
 pub extern "C" fn saigagalena_decode(modulus: u32, t: u32, word: u32) -> u64
     ensures { λ r. ⌜ r ≡ decodeNumber modulus t word ⌝ }
 {
-    let codec = parameters::codec_for(modulus, t);
-    answers::word_number(codec.decode_value(word))
+    let codec = c_numbers::codec_for(modulus, t);
+    c_numbers::word_number(codec.decode_value(word))
 }
 
 // encode of each message, in its place. Refuses by 2, 7, 8, 11, 16.
@@ -37,8 +35,8 @@ pub extern "C" fn saigagalena_encode_slice(
     ensures { λ r. ⌜ EncodesSlice t (modulusFor modulus) (embeddingFor centered) (now (messages .entry))
         (now (out .entry)) r (now (out .exit)) ⌝ }
 {
-    let codec = parameters::codec_for(modulus, t);
-    codec.encode_slice_to(messages, out, parameters::embedding_for(centered))
+    let codec = c_numbers::codec_for(modulus, t);
+    codec.encode_slice_to(messages, out, c_numbers::embedding_for(centered))
 }
 
 // decode of each word, in its place. Refuses by 2, 7, 8, 11, 14.
@@ -52,6 +50,6 @@ pub extern "C" fn saigagalena_decode_slice(
     ensures { λ r. ⌜ DecodesSlice t (modulusFor modulus) (now (words .entry))
         (now (out .entry)) r (now (out .exit)) ⌝ }
 {
-    let codec = parameters::codec_for(modulus, t);
+    let codec = c_numbers::codec_for(modulus, t);
     codec.decode_slice_to(words, out)
 }

@@ -3,10 +3,8 @@ ghost use Rattle.scheme.specs.Lwe.{Words, Signed};
 ghost use Rattle.primus_lwe.specs.Answers.{TakesPhase, Decrypts};
 ghost use Rattle.primus_lwe_batch.specs.Answers.{TakesPhases, DecryptsBatch};
 ghost use Rattle.primus_lwe_packed.specs.Answers.{TakesPackedPhases, DecryptsPacked};
-ghost use Rattle.saigagalena.specs.Numbers.{encryptionWith, messagesWith};
-ghost use Rattle.saigagalena.specs.Service.{Tells};
-use crate::answers;
-use crate::parameters;
+ghost use Rattle.c_numbers.specs.Numbers.{encryptionWith, messagesWith};
+ghost use Rattle.c_numbers.specs.Service.{Tells};
 
 // b − ⟨a, s⟩ modulo q, or 2^32 plus the first of 2, 6, 9, 10, 13, 14 that applies.
 #[no_mangle]
@@ -20,8 +18,8 @@ pub extern "C" fn saigagalena_decrypt_phase(
     ensures { λ r. ⌜ Tells (TakesPhase (encryptionWith modulus n «error_limit») (Words (now (secret .entry)))
         (now (ciphertext .entry))) r ⌝ }
 {
-    let params = parameters::encryption_for(modulus, n, error_limit);
-    answers::word_number(primus_lwe::decrypt_phase(params, secret, ciphertext))
+    let params = c_numbers::encryption_for(modulus, n, error_limit);
+    c_numbers::word_number(primus_lwe::decrypt_phase(params, secret, ciphertext))
 }
 
 // saigagalena_decrypt_phase under a signed key.
@@ -36,8 +34,8 @@ pub extern "C" fn saigagalena_decrypt_phase_signed(
     ensures { λ r. ⌜ Tells (TakesPhase (encryptionWith modulus n «error_limit») (Signed (now (secret .entry)))
         (now (ciphertext .entry))) r ⌝ }
 {
-    let params = parameters::encryption_for(modulus, n, error_limit);
-    answers::word_number(primus_lwe::decrypt_phase_signed(params, secret, ciphertext))
+    let params = c_numbers::encryption_for(modulus, n, error_limit);
+    c_numbers::word_number(primus_lwe::decrypt_phase_signed(params, secret, ciphertext))
 }
 
 // decode of the phase, or 2^32 plus the first of 2, 6, 7, 8, 9, 10, 13, 14 that applies.
@@ -53,8 +51,8 @@ pub extern "C" fn saigagalena_decrypt_message(
     ensures { λ r. ⌜ Tells (Decrypts (messagesWith modulus n t «error_limit») (Words (now (secret .entry)))
         (now (ciphertext .entry))) r ⌝ }
 {
-    let params = parameters::messages_for(modulus, n, t, error_limit);
-    answers::word_number(primus_lwe::decrypt_message(params, secret, ciphertext))
+    let params = c_numbers::messages_for(modulus, n, t, error_limit);
+    c_numbers::word_number(primus_lwe::decrypt_message(params, secret, ciphertext))
 }
 
 // saigagalena_decrypt_message under a signed key.
@@ -70,8 +68,8 @@ pub extern "C" fn saigagalena_decrypt_message_signed(
     ensures { λ r. ⌜ Tells (Decrypts (messagesWith modulus n t «error_limit») (Signed (now (secret .entry)))
         (now (ciphertext .entry))) r ⌝ }
 {
-    let params = parameters::messages_for(modulus, n, t, error_limit);
-    answers::word_number(primus_lwe::decrypt_message_signed(params, secret, ciphertext))
+    let params = c_numbers::messages_for(modulus, n, t, error_limit);
+    c_numbers::word_number(primus_lwe::decrypt_message_signed(params, secret, ciphertext))
 }
 
 // The phase of each ciphertext. Refuses by 2, 6, 9, 10, 11, 13, 14.
@@ -87,7 +85,7 @@ pub extern "C" fn saigagalena_decrypt_phase_batch(
     ensures { λ r. ⌜ TakesPhases (encryptionWith modulus n «error_limit») (Words (now (secret .entry)))
         (now (input .entry)) (now (out .entry)) r (now (out .exit)) ⌝ }
 {
-    let params = parameters::encryption_for(modulus, n, error_limit);
+    let params = c_numbers::encryption_for(modulus, n, error_limit);
     primus_lwe_batch::decrypt_phase_batch_to(params, secret, input, out)
 }
 
@@ -105,7 +103,7 @@ pub extern "C" fn saigagalena_decrypt_message_batch(
     ensures { λ r. ⌜ DecryptsBatch (messagesWith modulus n t «error_limit») (Words (now (secret .entry)))
         (now (input .entry)) (now (out .entry)) r (now (out .exit)) ⌝ }
 {
-    let params = parameters::messages_for(modulus, n, t, error_limit);
+    let params = c_numbers::messages_for(modulus, n, t, error_limit);
     primus_lwe_batch::decrypt_message_batch_to(params, secret, input, out)
 }
 
@@ -122,7 +120,7 @@ pub extern "C" fn saigagalena_decrypt_phase_packed(
     ensures { λ r. ⌜ TakesPackedPhases (encryptionWith modulus n «error_limit») (now (secret .entry))
         (now (input .entry)) (now (out .entry)) r (now (out .exit)) ⌝ }
 {
-    let params = parameters::encryption_for(modulus, n, error_limit);
+    let params = c_numbers::encryption_for(modulus, n, error_limit);
     primus_lwe_packed::decrypt_phase_packed(params, secret, input, out)
 }
 
@@ -140,6 +138,6 @@ pub extern "C" fn saigagalena_decrypt_message_packed(
     ensures { λ r. ⌜ DecryptsPacked (messagesWith modulus n t «error_limit») (now (secret .entry))
         (now (input .entry)) (now (out .entry)) r (now (out .exit)) ⌝ }
 {
-    let params = parameters::messages_for(modulus, n, t, error_limit);
+    let params = c_numbers::messages_for(modulus, n, t, error_limit);
     primus_lwe_packed::decrypt_message_packed(params, secret, input, out)
 }

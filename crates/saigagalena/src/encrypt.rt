@@ -3,8 +3,7 @@ ghost use Rattle.scheme.specs.Lwe.{Words, Signed};
 ghost use Rattle.primus_lwe.specs.Answers.{Encrypts, EncryptsMessage};
 ghost use Rattle.primus_lwe_batch.specs.Answers.{EncryptsBatch};
 ghost use Rattle.primus_lwe_packed.specs.Answers.{EncryptsPacked, EncryptsPackedMessages};
-ghost use Rattle.saigagalena.specs.Numbers.{embeddingFor, encryptionWith, messagesWith};
-use crate::parameters;
+ghost use Rattle.c_numbers.specs.Numbers.{embeddingFor, encryptionWith, messagesWith};
 
 // b = ⟨a, s⟩ + e + p modulo q; out holds (a, b). Refuses by 2, 6, 9, 11, 12, 13, 14, 15.
 #[no_mangle]
@@ -21,7 +20,7 @@ pub extern "C" fn saigagalena_encrypt_encoded(
     ensures { λ r. ⌜ Encrypts (encryptionWith modulus n «error_limit») (Words (now (secret .entry)))
         (now (mask .entry)) (now (errors .entry)) plaintext (now (out .entry)) r (now (out .exit)) ⌝ }
 {
-    let params = parameters::encryption_for(modulus, n, error_limit);
+    let params = c_numbers::encryption_for(modulus, n, error_limit);
     primus_lwe::encrypt_encoded_to(params, secret, mask, errors, plaintext, out)
 }
 
@@ -40,7 +39,7 @@ pub extern "C" fn saigagalena_encrypt_encoded_signed(
     ensures { λ r. ⌜ Encrypts (encryptionWith modulus n «error_limit») (Signed (now (secret .entry)))
         (now (mask .entry)) (now (errors .entry)) plaintext (now (out .entry)) r (now (out .exit)) ⌝ }
 {
-    let params = parameters::encryption_for(modulus, n, error_limit);
+    let params = c_numbers::encryption_for(modulus, n, error_limit);
     primus_lwe::encrypt_encoded_signed_to(params, secret, mask, errors, plaintext, out)
 }
 
@@ -62,10 +61,10 @@ pub extern "C" fn saigagalena_encrypt_message(
         (Words (now (secret .entry))) (now (mask .entry)) (now (errors .entry)) message (now (out .entry)) r
         (now (out .exit)) ⌝ }
 {
-    let params = parameters::messages_for(modulus, n, t, error_limit);
+    let params = c_numbers::messages_for(modulus, n, t, error_limit);
     primus_lwe::encrypt_message_to(
         params,
-        parameters::embedding_for(centered),
+        c_numbers::embedding_for(centered),
         secret,
         mask,
         errors,
@@ -92,10 +91,10 @@ pub extern "C" fn saigagalena_encrypt_message_signed(
         (Signed (now (secret .entry))) (now (mask .entry)) (now (errors .entry)) message (now (out .entry)) r
         (now (out .exit)) ⌝ }
 {
-    let params = parameters::messages_for(modulus, n, t, error_limit);
+    let params = c_numbers::messages_for(modulus, n, t, error_limit);
     primus_lwe::encrypt_message_signed_to(
         params,
-        parameters::embedding_for(centered),
+        c_numbers::embedding_for(centered),
         secret,
         mask,
         errors,
@@ -122,10 +121,10 @@ pub extern "C" fn saigagalena_encrypt_message_batch(
         (Words (now (secret .entry))) (now (masks .entry)) (now (errors .entry)) (now (messages .entry))
         (now (out .entry)) r (now (out .exit)) ⌝ }
 {
-    let params = parameters::messages_for(modulus, n, t, error_limit);
+    let params = c_numbers::messages_for(modulus, n, t, error_limit);
     primus_lwe_batch::encrypt_message_batch_to(
         params,
-        parameters::embedding_for(centered),
+        c_numbers::embedding_for(centered),
         secret,
         masks,
         errors,
@@ -150,7 +149,7 @@ pub extern "C" fn saigagalena_encrypt_encoded_packed(
         (now (mask .entry)) (now (errors .entry)) (now (plaintexts .entry)) (now (out .entry)) r
         (now (out .exit)) ⌝ }
 {
-    let params = parameters::encryption_for(modulus, n, error_limit);
+    let params = c_numbers::encryption_for(modulus, n, error_limit);
     primus_lwe_packed::encrypt_encoded_packed(params, secret, mask, errors, plaintexts, out)
 }
 
@@ -172,10 +171,10 @@ pub extern "C" fn saigagalena_encrypt_message_packed(
         (now (secret .entry)) (now (mask .entry)) (now (errors .entry)) (now (messages .entry))
         (now (out .entry)) r (now (out .exit)) ⌝ }
 {
-    let params = parameters::messages_for(modulus, n, t, error_limit);
+    let params = c_numbers::messages_for(modulus, n, t, error_limit);
     primus_lwe_packed::encrypt_message_packed(
         params,
-        parameters::embedding_for(centered),
+        c_numbers::embedding_for(centered),
         secret,
         mask,
         errors,

@@ -2,8 +2,7 @@
 ghost use mathlib.Core.Path.{_≡_};
 ghost use Rattle.primus_reduce.specs.Ring.{modulusFor};
 ghost use Rattle.primus_lattice.specs.Answers.{given, Adds, Extracts, tallyFor, tagAnswer, markAnswer};
-ghost use Rattle.saigagalena.specs.Service.{tagNumber, markNumber};
-use crate::answers;
+ghost use Rattle.c_numbers.specs.Service.{tagNumber, markNumber};
 use primus_lattice::LweDimension;
 use primus_lattice::LweTag;
 use primus_lattice::LweTagAnswer;
@@ -53,7 +52,7 @@ pub extern "C" fn saigagalena_add_tally(x: u64, y: u64) -> u64
             let sum = tag.tally();
             sum.number()
         }
-        LweTagAnswer::Refused(r) => answers::refused(r),
+        LweTagAnswer::Refused(r) => c_numbers::refused(r),
     }
 }
 
@@ -63,5 +62,5 @@ pub extern "C" fn saigagalena_is_good(modulus: u32, t: u32, tally: u64) -> u64
     ensures { λ r. ⌜ r ≡ markNumber (markAnswer (tallyFor tally) (modulusFor modulus) t) ⌝ }
 {
     let tag = LweTag::from_tally(Tally::from_number(tally));
-    answers::mark_number(tag.is_good(Modulus::from_number(modulus), t))
+    c_numbers::mark_number(tag.is_good(Modulus::from_number(modulus), t))
 }

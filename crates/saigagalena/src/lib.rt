@@ -1,11 +1,9 @@
 // The calls of the C service: numbers and slices. include/saigagalena.h declares them for C and C++.
-mod answers;
 mod basis;
 mod codec;
 mod decrypt;
 mod encrypt;
 mod lattice;
-mod parameters;
 mod public_key;
 mod switch;
 

@@ -1,8 +1,7 @@
 // The public key, for C. The promises are those of primus_lwe_public_key, of the parameters that the numbers give.
 ghost use Rattle.scheme.specs.Lwe.{Words, Signed};
 ghost use Rattle.primus_lwe_public_key.specs.Answers.{GeneratesPublicKey, EncryptsPublic, EncryptsPublicMessage};
-ghost use Rattle.saigagalena.specs.Numbers.{embeddingFor, encryptionWith, messagesWith};
-use crate::parameters;
+ghost use Rattle.c_numbers.specs.Numbers.{embeddingFor, encryptionWith, messagesWith};
 use primus_lwe_public_key::LwePublicKey;
 
 // n encryptions of 0 in out. Refuses by 2, 6, 9, 11, 12, 13, 14, 15.
@@ -19,7 +18,7 @@ pub extern "C" fn saigagalena_public_key_generate(
     ensures { λ r. ⌜ GeneratesPublicKey (encryptionWith modulus n «error_limit») (Words (now (secret .entry)))
         (now (masks .entry)) (now (errors .entry)) (now (out .entry)) r (now (out .exit)) ⌝ }
 {
-    let params = parameters::encryption_for(modulus, n, error_limit);
+    let params = c_numbers::encryption_for(modulus, n, error_limit);
     LwePublicKey::generate(params, secret, masks, errors, out)
 }
 
@@ -37,7 +36,7 @@ pub extern "C" fn saigagalena_public_key_generate_signed(
     ensures { λ r. ⌜ GeneratesPublicKey (encryptionWith modulus n «error_limit») (Signed (now (secret .entry)))
         (now (masks .entry)) (now (errors .entry)) (now (out .entry)) r (now (out .exit)) ⌝ }
 {
-    let params = parameters::encryption_for(modulus, n, error_limit);
+    let params = c_numbers::encryption_for(modulus, n, error_limit);
     LwePublicKey::generate_signed(params, secret, masks, errors, out)
 }
 
@@ -56,7 +55,7 @@ pub extern "C" fn saigagalena_public_key_encrypt_encoded(
     ensures { λ r. ⌜ EncryptsPublic (encryptionWith modulus n «error_limit») (now (key .entry))
         (now (errors .entry)) (now (coefficients .entry)) plaintext (now (out .entry)) r (now (out .exit)) ⌝ }
 {
-    let params = parameters::encryption_for(modulus, n, error_limit);
+    let params = c_numbers::encryption_for(modulus, n, error_limit);
     LwePublicKey::encrypt_encoded_to(params, key, errors, coefficients, plaintext, out)
 }
 
@@ -78,10 +77,10 @@ pub extern "C" fn saigagalena_public_key_encrypt_message(
         (now (key .entry)) (now (errors .entry)) (now (coefficients .entry)) message (now (out .entry)) r
         (now (out .exit)) ⌝ }
 {
-    let params = parameters::messages_for(modulus, n, t, error_limit);
+    let params = c_numbers::messages_for(modulus, n, t, error_limit);
     LwePublicKey::encrypt_message_to(
         params,
-        parameters::embedding_for(centered),
+        c_numbers::embedding_for(centered),
         key,
         errors,
         coefficients,

@@ -2,8 +2,7 @@
 ghost use Rattle.scheme.specs.Lwe.{Words, Signed};
 ghost use Rattle.key_switch_key.specs.Answers.{Generates};
 ghost use Rattle.key_switch.specs.Answers.{Switches, SwitchesBatch};
-ghost use Rattle.saigagalena.specs.Numbers.{switchingWith};
-use crate::parameters;
+ghost use Rattle.c_numbers.specs.Numbers.{switchingWith};
 use key_switch_key::LweKeySwitchingKey;
 
 // Entry (i, j) encrypts sᵢ × weight j under the output key. Refuses by 1 to 6, 9, 11, 12, 13, 14, 15.
@@ -25,7 +24,7 @@ pub extern "C" fn saigagalena_key_generate(
         (Words (now («input_key» .entry))) (now («output_key» .entry)) (now (masks .entry))
         (now (errors .entry)) (now (out .entry)) r (now (out .exit)) ⌝ }
 {
-    let params = parameters::switching_for(modulus, base_log, levels, n, m);
+    let params = c_numbers::switching_for(modulus, base_log, levels, n, m);
     LweKeySwitchingKey::generate(
         params,
         error_limit,
@@ -56,7 +55,7 @@ pub extern "C" fn saigagalena_key_generate_signed(
         (Signed (now («input_key» .entry))) (now («output_key» .entry)) (now (masks .entry))
         (now (errors .entry)) (now (out .entry)) r (now (out .exit)) ⌝ }
 {
-    let params = parameters::switching_for(modulus, base_log, levels, n, m);
+    let params = c_numbers::switching_for(modulus, base_log, levels, n, m);
     LweKeySwitchingKey::generate_signed(
         params,
         error_limit,
@@ -83,7 +82,7 @@ pub extern "C" fn saigagalena_key_switch(
     ensures { λ r. ⌜ Switches (switchingWith modulus «base_log» levels n m) (now (key .entry))
         (now (input .entry)) (now (out .entry)) r (now (out .exit)) ⌝ }
 {
-    let params = parameters::switching_for(modulus, base_log, levels, n, m);
+    let params = c_numbers::switching_for(modulus, base_log, levels, n, m);
     key_switch::key_switch_to(params, key, input, out)
 }
 
@@ -102,6 +101,6 @@ pub extern "C" fn saigagalena_key_switch_batch(
     ensures { λ r. ⌜ SwitchesBatch (switchingWith modulus «base_log» levels n m) (now (key .entry))
         (now (input .entry)) (now (out .entry)) r (now (out .exit)) ⌝ }
 {
-    let params = parameters::switching_for(modulus, base_log, levels, n, m);
+    let params = c_numbers::switching_for(modulus, base_log, levels, n, m);
     key_switch::key_switch_batch_to(params, key, input, out)
 }

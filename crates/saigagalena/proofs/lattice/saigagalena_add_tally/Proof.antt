@@ -2,7 +2,7 @@ use mathlib.Core.Path.{_≡_, sym, ap, ap₂, _∙_}
 use Rattle.primus_lattice.specs.declared.tag.LweTagAnswer.{LweTagAnswer}
 use Rattle.primus_lattice.specs.declared.tag.LweTagAnswer.the-variants as T
 use Rattle.primus_lattice.specs.Answers.{tallyFor, numberOfTally, tagAnswer}
-use Rattle.saigagalena.specs.Service.{tagNumber}
+use Rattle.c_numbers.specs.Service.{tagNumber}
 use borrow.Author.Needs.{needs}
 use Rattle.saigagalena.proofs.lattice.saigagalena_add_tally.Statement.{statement}
 use Rattle.saigagalena.proofs.lattice.saigagalena_add_tally.Tie as tie

@@ -2,7 +2,7 @@ use mathlib.Core.Path.{ap, ap₂, _∙_}
 use Rattle.primus_reduce.specs.declared.modulus.Modulus.{Modulus}
 use Rattle.primus_lattice.specs.declared.tag.Tally.{Tally}
 use Rattle.primus_lattice.specs.Answers.{markAnswer}
-use Rattle.saigagalena.specs.Service.{markNumber}
+use Rattle.c_numbers.specs.Service.{markNumber}
 use Rattle.saigagalena.proofs.lattice.saigagalena_is_good.Statement.{statement}
 use Rattle.saigagalena.proofs.lattice.saigagalena_is_good.Tie as tie
 

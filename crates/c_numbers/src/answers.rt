@@ -1,0 +1,45 @@
+// Answers of one number of 64 bits: the result, or 2^32 plus the refusal number.
+ghost use mathlib.Core.Path.{_≡_};
+ghost use Rattle.primus_encoding.specs.Answers.{orZero};
+ghost use Rattle.c_numbers.specs.Service.{refusedNumber, wordNumber, markNumber};
+use checks::WordAnswer;
+use primus_lattice::MarkAnswer;
+
+pub fn refused(r: u32) -> u64
+    ensures { λ x. ⌜ x ≡ refusedNumber r ⌝ }
+{
+    0x1_0000_0000 + r as u64
+}
+
+pub fn word_number(answer: WordAnswer) -> u64
+    ensures { λ r. ⌜ r ≡ wordNumber answer ⌝ }
+{
+    match answer {
+        WordAnswer::Word(x) => x as u64,
+        WordAnswer::Refused(r) => refused(r),
+    }
+}
+
+// The word, or 0: for a call that has judged the numbers itself.
+pub fn or_zero(answer: WordAnswer) -> u32
+    ensures { λ r. ⌜ r ≡ orZero answer ⌝ }
+{
+    match answer {
+        WordAnswer::Word(x) => x,
+        WordAnswer::Refused(_) => 0,
+    }
+}
+
+pub fn mark_number(answer: MarkAnswer) -> u64
+    ensures { λ r. ⌜ r ≡ markNumber answer ⌝ }
+{
+    match answer {
+        MarkAnswer::Mark(good) => {
+            if good {
+                return 1;
+            }
+            0
+        }
+        MarkAnswer::Refused(r) => refused(r),
+    }
+}

@@ -1,0 +1,17 @@
+// What the plain numbers of a C call stand for, and answers as numbers: for the exports of saigagalena.
+mod answers;
+mod basis;
+mod parameters;
+
+pub use answers::mark_number;
+pub use answers::or_zero;
+pub use answers::refused;
+pub use answers::word_number;
+pub use basis::write_basis;
+pub use basis::write_reading;
+pub use parameters::basis_for;
+pub use parameters::codec_for;
+pub use parameters::embedding_for;
+pub use parameters::encryption_for;
+pub use parameters::messages_for;
+pub use parameters::switching_for;
