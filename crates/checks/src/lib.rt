@@ -5,6 +5,7 @@ ghost use Prim.Native.Nat.{_+_, _*_, _/_};
 ghost use Rattle.scheme.specs.Checks.{modulusFails, plaintextFails, smallFails, lengthFails, batchFails, errorLimitFails, wordFails};
 ghost use Rattle.scheme.specs.Checks.{wordsFail, magnitudesFail, signedFail, errorsFail, coefficientsFail, messageFails, messagesFail};
 ghost use Rattle.primus_reduce.specs.Ring.{meant, sizeOf};
+
 mod judged;
 
 pub use judged::Sizes;

@@ -1,172 +1,101 @@
--- What the checks of a call leave.
+-- What the checks of a switch leave.
 -- Assumes nothing.
-use mathlib.Core.Path.{_≡_, refl, sym, ap, ap₂, subst, _∙_}
-use mathlib.Core.Bool.{Bool, true, false, not, _||_}
-use mathlib.Core.List.{List, [], _∷_, _++_}
-use Prim.Native.Nat.{ℕ, suc, _+_, _-_, _*_, _/_, _%_, _<_, _≤_}
-use native.Mathlib.Nat.{div-add-mod, mul-le-mul-right, suc-mul}
+use mathlib.Core.Path.{_≡_, ap, ap₂, sym, subst, _∙_}
+use mathlib.Core.Bool.{Bool, false}
+use mathlib.Core.List.{List}
+use Prim.Native.Nat.{ℕ, _+_, _*_, _/_, _%_, _<_}
+use native.Mathlib.Nat.{div-add-mod}
 use native.Mathlib.Omega.{arith}
-use lib.Arith.{digits-lt}
-use lib.Dec.{eqb, leb}
-use lib.ListN.{length, getD, take, drop}
-use borrow.Author.Tests.{eq-eqb, ne-eqb, eqb-true, not-false, le-leb, lt-leb, leb-false}
-use Rattle.scheme.specs.Numbers.{pick}
-use Rattle.scheme.specs.Switch.{entryOf, switched, switchedBatch}
-use Rattle.scheme.specs.Checks.{row, firstOf, dimensionFails, lengthFails, batchFails}
-use Rattle.scheme.proofs.Checks.{passed, passed-append, dimension-ok, length-ok, words-ok}
+use lib.ListN.{length, getD}
+use borrow.Author.Tests.{eqb-true, not-false}
+use Rattle.scheme.specs.Switch.{switchedBatch}
+use Rattle.scheme.specs.Checks.{refusal, lengthFails, batchFails, wordsFail}
+use Rattle.scheme.proofs.Checks.{length-ok, words-ok}
+use Rattle.scheme.proofs.Order.{passed, neither}
 use Rattle.primus_reduce.specs.Ring.{sizeOf}
-use Rattle.primus_decompose.specs.declared.primitive.basis.ApproxSignedBasis.{ApproxSignedBasis}
-use Rattle.primus_decompose.specs.declared.primitive.params.PreparedBasis.{PreparedBasis}
+use Rattle.gadget_constants.specs.declared.prepared.PreparedBasis.{PreparedBasis}
 use Rattle.primus_decompose.specs.declared.error.PreparedBasisAnswer.{PreparedBasisAnswer}
 use Rattle.primus_decompose.specs.declared.error.PreparedBasisAnswer.the-variants as A
-use Rattle.primus_decompose.specs.Answers.{basis, rows, preparedAnswer, WhereReady}
-use Rattle.primus_decompose.specs.Params.{Ready, basisIn, preparedOf}
-use Rattle.key_switch.specs.declared.parameters.LweKeySwitchingParameters.{LweKeySwitchingParameters}
-use Rattle.key_switch.specs.declared.parameters.Sizes.{Sizes}
-use Rattle.key_switch.specs.Answers.{sizesOf, parameterRows, batchRows, batchRefusal, switchRows, switchRefusal, Switchable, keyRefusal, entryMissing, entryAnswer}
-use Rattle.key_switch.specs.Tile.{Shaped}
-
--- ---- an accepted basis is prepared
-
-module _ (b : ApproxSignedBasis) (z : firstOf (rows b) ≡ 0) (r : PreparedBasisAnswer) (e : r ≡ preparedAnswer b) where
-  answer-is : r ≡ A.Ready (preparedOf (b .modulus) (b .«log_basis» .0) (b .«level_count» .0))
-  answer-is = e ∙ plain
-    where
-      plain : preparedAnswer b ≡ A.Ready (preparedOf (b .modulus) (b .«log_basis» .0) (b .«level_count» .0))
-      plain = rw (eq-eqb (firstOf (rows b)) 0 z)
-
-  pub prepared-made : (p : PreparedBasis) → r ≡ A.Ready p → p ≡ preparedOf (b .modulus) (b .«log_basis» .0) (b .«level_count» .0)
-  prepared-made p f = let g : A.Ready p ≡ A.Ready (preparedOf (b .modulus) (b .«log_basis» .0) (b .«level_count» .0)) = sym f ∙ answer-is in cc
-
-  pub prepared-not : (k : ℕ) → r ≡ A.Refused k → ⊥
-  prepared-not k f = let g : A.Refused k ≡ A.Ready (preparedOf (b .modulus) (b .«log_basis» .0) (b .«level_count» .0)) = sym f ∙ answer-is in let k : _≡_ {A = ℕ} 0 1 = cc in omega arith
-
--- ---- parameters
-
-pub parameters-passed : (P : LweKeySwitchingParameters) → firstOf (parameterRows P) ≡ 0
-    → (firstOf (rows (P .basis)) ≡ 0) × (1 ≤ P .«input_dimension» .0) × (P .«input_dimension» .0 ≤ 2048) × (1 ≤ P .«output_dimension» .0) × (P .«output_dimension» .0 ≤ 2048)
-parameters-passed P e =
-    let ds = row (dimensionFails (P .«input_dimension» .0)) 6 ∷ row (dimensionFails (P .«output_dimension» .0)) 6 ∷ [] in
-    let p = passed-append (rows (P .basis)) ds tt e in
-    let q = passed ds tt (p .1) in
-    let n = dimension-ok (P .«input_dimension» .0) (q .0) in
-    let m = dimension-ok (P .«output_dimension» .0) (q .1 .0) in
-    (p .0, n .0, n .1, m .0, m .1)
-
--- ---- switches
+use Rattle.primus_decompose.specs.Answers.{basis, preparedBy, preparedAnswer, WhereReady}
+use Rattle.gadget_constants.specs.Prepared.{Ready, basisIn}
+use Rattle.key_switch_tile.specs.Tile.{Shaped}
+use Rattle.key_switch_key.specs.declared.parameters.LweKeySwitchingParameters.{LweKeySwitchingParameters}
+use Rattle.key_switch_key.specs.Answers.{qIn, nIn, mIn}
+use Rattle.key_switch_key.proofs.Passed.{prepared-made, prepared-not, judged}
+use Rattle.key_switch.specs.Answers.{inputRows, switchRows, batchRows, Switchable}
 
 batch-whole : (len n : ℕ) → batchFails len n ≡ false → len ≡ len / (n + 1) * (n + 1)
 batch-whole len n e = omega (arith, div-add-mod len (n + 1), eqb-true (len % (n + 1)) 0 (not-false _ e))
 
 module _ (P : LweKeySwitchingParameters) (key input : List ℕ) (room : ℕ) where
-  pub batch-passed : batchRefusal P key input room ≡ 0 → Switchable P key input (length input / (P .«input_dimension» .0 + 1)) room
-  unfolding batchRefusal
-  batch-passed e =
-      let ds = batchRows (sizesOf P) key input room in
-      let p = passed-append (parameterRows P) ds tt e in
-      let b = parameters-passed P (p .0) in
-      let q = passed ds tt (p .1) in
+  -- what both leave, where the lengths are those of `count` ciphertexts
+  switchable : (bad wrong : Bool) (count : ℕ) → refusal (inputRows P key input bad wrong) ≡ 0 → length input ≡ count * (nIn P + 1) → room ≡ count * (mIn P + 1)
+      → Switchable P key input count room
+  switchable bad wrong count e inputs fits =
+      let no = passed (inputRows P key input bad wrong) e in
+      let j = judged P _ e in
+      let words = neither (wordsFail (qIn P) key) (wordsFail (qIn P) input) (no 14 tt) in
       record {
-        accepted = b .0;
-        short = b .2;
-        narrow = b .4;
-        keyed = length-ok _ _ (q .0);
-        inputs = batch-whole (length input) (P .«input_dimension» .0) (q .1 .0);
-        fits = length-ok _ _ (q .1 .1 .0);
-        keys = words-ok _ key (q .1 .1 .1 .0);
-        words = words-ok _ input (q .1 .1 .1 .1 .0);
+        accepted = j .accepted;
+        short = j .input-most;
+        narrow = j .output-most;
+        keyed = length-ok _ _ (no 9 tt);
+        inputs = inputs;
+        fits = fits;
+        keys = words-ok _ key (words .0);
+        words = words-ok _ input (words .1);
       }
 
-  pub switch-passed : switchRefusal P key input room ≡ 0 → (length input ≡ P .«input_dimension» .0 + 1) × Switchable P key input 1 room
-  unfolding switchRefusal
-  switch-passed e =
-      let ds = switchRows (sizesOf P) key input room in
-      let p = passed-append (parameterRows P) ds tt e in
-      let b = parameters-passed P (p .0) in
-      let q = passed ds tt (p .1) in
-      let l : length input ≡ P .«input_dimension» .0 + 1 = length-ok _ _ (q .1 .0) in
-      let o : room ≡ P .«output_dimension» .0 + 1 = length-ok _ _ (q .1 .1 .0) in (
-        l,
-        record {
-          accepted = b .0;
-          short = b .2;
-          narrow = b .4;
-          keyed = length-ok _ _ (q .0);
-          inputs = omega arith;
-          fits = omega arith;
-          keys = words-ok _ key (q .1 .1 .1 .0);
-          words = words-ok _ input (q .1 .1 .1 .1 .0);
-        },
-      )
+  pub batch-passed : refusal (batchRows P key input room) ≡ 0 → Switchable P key input (length input / (nIn P + 1)) room
+  batch-passed e =
+      let no = passed (batchRows P key input room) e in
+      switchable _ _ _ e (batch-whole (length input) (nIn P) (no 10 tt)) (length-ok _ _ (no 11 tt))
 
--- what the tiles ask, with the numbers at hand
-module _ (P : LweKeySwitchingParameters) (key input : List ℕ) (count room : ℕ) (s : Switchable P key input count room) (z : Sizes) (ez : z ≡ sizesOf P)
-    (p : PreparedBasis) (ep : p ≡ preparedOf (P .basis .modulus) (P .basis .«log_basis» .0) (P .basis .«level_count» .0)) where
-  pub tiles-ask : Ready p → Shaped p (z .n) (z .m) count input key × (room ≡ count * (z .m + 1))
-  tiles-ask r =
-      rw ez (
-        record {
-          ready = r;
-          narrow = s .narrow;
-          short = s .short;
-          inputs = s .inputs;
-          keyed = s .keyed ∙ ap (λ x. P .«input_dimension» .0 * x .«level_count» * (P .«output_dimension» .0 + 1)) (sym ep);
-          words = λ i h. subst (λ x. getD input i 0 < sizeOf (x .modulus)) (sym ep) (s .words i h);
-          keys = λ i h. subst (λ x. getD key i 0 < sizeOf (x .modulus)) (sym ep) (s .keys i h);
-        },
-        s .fits,
-      )
+  pub rows-passed : {count : ℕ} → count ≡ length input / (nIn P + 1) → refusal (batchRows P key input room) ≡ 0 → Switchable P key input count room
+  rows-passed c e = subst (λ n. Switchable P key input n room) (sym c) (batch-passed e)
 
-  pub tiles-are : switchedBatch (basisIn p) (z .n) (z .m) key count input ≡ switchedBatch (basis (P .basis)) (P .«input_dimension» .0) (P .«output_dimension» .0) key count input
-  tiles-are = ap₂ (λ x y. switchedBatch (basisIn x) (y .n) (y .m) key count input) ep ez
+  pub one-passed : refusal (switchRows P key input room) ≡ 0 → (length input ≡ nIn P + 1) × Switchable P key input 1 room
+  one-passed e =
+      let no = passed (switchRows P key input room) e in
+      let l : length input ≡ nIn P + 1 = length-ok _ _ (no 10 tt) in
+      let o : room ≡ mIn P + 1 = length-ok _ _ (no 11 tt) in
+      (l, switchable _ _ 1 e (omega arith) (omega arith))
 
--- ---- entries
+  -- the refusals, by the numbers at hand
+  module _ {r : ℕ} {bad wrong : Bool} (e : r ≡ refusal (inputRows P key input bad wrong)) where
+    pub one-number : bad ≡ lengthFails (length input) (nIn P + 1) → wrong ≡ lengthFails room (mIn P + 1) → r ≡ refusal (switchRows P key input room)
+    one-number b w = e ∙ ap₂ (λ b w. refusal (inputRows P key input b w)) b w
 
--- the three ways to find an entry missing or not
-module _ (R n i L j : ℕ) where
-  pub missing-refused : (R ≡ 0 → ⊥) → true ≡ (not (eqb R 0) || leb n i || leb L j)
-  missing-refused h = rw (ne-eqb R 0 h)
+    pub batch-number : {n m count : ℕ} → n ≡ nIn P → m ≡ mIn P → count ≡ length input / (n + 1) → bad ≡ batchFails (length input) n → wrong ≡ lengthFails room (count * (m + 1))
+        → r ≡ refusal (batchRows P key input room)
+    batch-number {n} {m} {count} en em ec b w =
+        e ∙ ap₂ (λ b w. refusal (inputRows P key input b w)) (b ∙ ap (batchFails (length input)) en)
+        (w ∙ ap₂ (λ x y. lengthFails room (x * (y + 1))) (ec ∙ ap (λ n. length input / (n + 1)) en) em)
 
-  pub missing-place : R ≡ 0 → n ≤ i → true ≡ (not (eqb R 0) || leb n i || leb L j)
-  missing-place e h = rw (eq-eqb R 0 e, le-leb n i h)
+-- what the tiles ask, with the basis prepared and the numbers at hand
+module _ {P : LweKeySwitchingParameters} {key input : List ℕ} {count room : ℕ} (s : Switchable P key input count room)
+    {r : PreparedBasisAnswer} (er : (r ≡ preparedAnswer (P .basis)) × WhereReady r) where
+  pub switches-ready : {k : ℕ} → r ≡ A.Refused k → ⊥
+  switches-ready f = prepared-not (P .basis) (s .accepted) er f
 
-  pub missing-level : R ≡ 0 → i < n → leb L j ≡ (not (eqb R 0) || leb n i || leb L j)
-  missing-level e h = rw (eq-eqb R 0 e, lt-leb n i h)
+  module _ {p : PreparedBasis} (f : r ≡ A.Ready p) {n m : ℕ} (en : n ≡ nIn P) (em : m ≡ mIn P) where
+    ep : p ≡ preparedBy (P .basis)
+    ep = prepared-made (P .basis) (s .accepted) er f .0
 
-  present : (not (eqb R 0) || leb n i || leb L j) ≡ false → (R ≡ 0) × (i < n) × (j < L)
-  present = go (eqb R 0) refl (leb n i) refl (leb L j) refl
-    where
-      go : (a : Bool) → eqb R 0 ≡ a → (b : Bool) → leb n i ≡ b → (c : Bool) → leb L j ≡ c → (not a || b || c) ≡ false → (R ≡ 0) × (i < n) × (j < L)
-      go true e false f false g h = (eqb-true R 0 e, leb-false n i f, leb-false L j g)
-      go true e false f true g h = let z : true ≡ false = h in let k : _≡_ {A = ℕ} 0 1 = cc in absurd (omega arith)
-      go true e true f c g h = let z : true ≡ false = h in let k : _≡_ {A = ℕ} 0 1 = cc in absurd (omega arith)
-      go false e b f c g h = let z : true ≡ false = h in let k : _≡_ {A = ℕ} 0 1 = cc in absurd (omega arith)
+    pub tiles-ask : Shaped p n m count input key × (room ≡ count * (m + 1))
+    tiles-ask =
+        rw (en, em) (
+          record {
+            ready = prepared-made (P .basis) (s .accepted) er f .1;
+            narrow = s .narrow;
+            short = s .short;
+            inputs = s .inputs;
+            keyed = s .keyed ∙ ap (λ x. nIn P * x .«level_count» * (mIn P + 1)) (sym ep);
+            words = λ i h. subst (λ x. getD input i 0 < sizeOf (x .modulus)) (sym ep) (s .words i h);
+            keys = λ i h. subst (λ x. getD key i 0 < sizeOf (x .modulus)) (sym ep) (s .keys i h);
+          },
+          s .fits,
+        )
 
-module _ (P : LweKeySwitchingParameters) (key : List ℕ) (i j : ℕ) (h : entryMissing P (length key) i j ≡ false) (z : Sizes) (ez : z ≡ sizesOf P) where
-  -- the entry lies within the key
-  pub entry-within : ((i * z .levels + j) * (z .m + 1) + (z .m + 1) ≤ length key) × (z .m ≤ 2048)
-  unfolding keyRefusal
-  entry-within =
-      rw ez
-      (let g = present (keyRefusal P (sizesOf P) (length key)) (P .«input_dimension» .0) i (P .basis .«level_count» .0) j h in
-      let p = passed-append (parameterRows P) (row (lengthFails (length key) (P .«input_dimension» .0 * P .basis .«level_count» .0 * (P .«output_dimension» .0 + 1))) 9 ∷ []) tt (g .0) in
-      let k : length key ≡ P .«input_dimension» .0 * P .basis .«level_count» .0 * (P .«output_dimension» .0 + 1)
-      = length-ok _ _ (passed (row (lengthFails (length key) (P .«input_dimension» .0 * P .basis .«level_count» .0 * (P .«output_dimension» .0 + 1))) 9 ∷ []) tt (p .1) .0) in
-      (within (P .«input_dimension» .0) (P .basis .«level_count» .0) (P .«output_dimension» .0) (g .1) (g .2) k, parameters-passed P (p .0) .4))
-    where
-      within : (n L m : ℕ) → i < n → j < L → length key ≡ n * L * (m + 1) → (i * L + j) * (m + 1) + (m + 1) ≤ length key
-      within n L m a b e =
-          let k : suc (i * L + j) * (m + 1) ≤ n * L * (m + 1) = mul-le-mul-right (m + 1) (digits-lt a b) in
-          omega (arith, k, suc-mul (i * L + j) (m + 1))
-
-  pub entry-is : take ((i * z .levels + j) * (z .m + 1) + (z .m + 1) - (i * z .levels + j) * (z .m + 1)) (drop ((i * z .levels + j) * (z .m + 1)) key) ≡ entryAnswer P key i j
-  entry-is = ap (λ k. take k (drop ((i * z .levels + j) * (z .m + 1)) key)) (wide ((i * z .levels + j) * (z .m + 1)) (z .m + 1)) ∙ ap (λ z. entryOf (z .levels) (z .m) key i j) ez ∙ sym picked
-    where
-      wide : (a w : ℕ) → a + w - a ≡ w
-      wide a w = omega arith
-
-      picked : entryAnswer P key i j ≡ entryOf (P .basis .«level_count» .0) (P .«output_dimension» .0) key i j
-      picked = rw h
-
-pub entry-none : (P : LweKeySwitchingParameters) (key : List ℕ) (i j : ℕ) → entryMissing P (length key) i j ≡ true → entryAnswer P key i j ≡ []
-entry-none P key i j h = rw h
+    pub tiles-are : switchedBatch (basisIn p) n m key count input ≡ switchedBatch (basis (P .basis)) (nIn P) (mIn P) key count input
+    tiles-are = ap₂ (λ n m. switchedBatch (basisIn p) n m key count input) en em ∙ ap (λ x. switchedBatch (basisIn x) (nIn P) (mIn P) key count input) ep

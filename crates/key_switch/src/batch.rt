@@ -1,75 +1,28 @@
-// Batches, eight ciphertexts to a tile.
-ghost use mathlib.Core.Path.{_≡_};
-ghost use Prim.Native.Nat.{_+_, _*_, _≤_};
-ghost use lib.ListN.{length};
-ghost use Rattle.scheme.specs.Switch.{switchedBatch};
-ghost use Rattle.primus_decompose.specs.Params.{basisIn};
-ghost use Rattle.key_switch.specs.Tile.{Shaped};
-use crate::explicit;
-use crate::native;
-use primus_decompose::PreparedBasis;
-use primus_reduce::Modulus;
+// The switch of a batch.
+ghost use Rattle.key_switch.specs.Answers.{SwitchesBatch};
+use crate::switch_judged;
+use crate::switch_refusal;
+use key_switch_key::LweKeySwitchingParameters;
 
-// One tile; acc is room for the accumulators of an explicit modulus.
-fn switch_tile(
-    acc: &mut [u64],
-    out: &mut [u32],
-    input: &[u32],
+// Each row of n + 1 words is switched to its own row of m + 1. Refuses by 1 to 6, 9, 10, 11, 14.
+pub fn key_switch_batch_to(
+    params: LweKeySwitchingParameters,
     key: &[u32],
-    n: usize,
-    m: usize,
-    rows: usize,
-    p: PreparedBasis,
-)
-    requires { ⌜ (rows ≤ 8) × Shaped p n m rows (now input) (now key) × (length (now acc) ≡ rows * (m + 1)) × (length (now out) ≡ rows * (m + 1)) ⌝ }
-    ensures { λ _. ⌜ now (out .exit) ≡ switchedBatch (basisIn p) n m (now (key .entry)) rows (now (input .entry)) ⌝ }
-{
-    let modulus = p.modulus;
-    match modulus {
-        Modulus::Native => native::switch_tile(out, input, key, n, m, rows, p),
-        Modulus::Explicit(q) => explicit::switch_tile(acc, out, input, key, n, m, rows, q, p),
-    }
-}
-
-// The lesser of 8 and x.
-fn up_to_eight(x: usize) -> usize
-    ensures { λ r. ⌜ (r ≤ 8) × (r ≤ x) × (1 ≤ x → 1 ≤ r) ⌝ }
-{
-    if x < 8 { x } else { 8 }
-}
-
-// Switches `count` ciphertexts. The accumulators are made once, for every tile.
-pub(crate) fn switch_tiles(
-    out: &mut [u32],
     input: &[u32],
-    key: &[u32],
-    n: usize,
-    m: usize,
-    count: usize,
-    p: PreparedBasis,
-)
-    requires { ⌜ Shaped p n m count (now input) (now key) × (length (now out) ≡ count * (m + 1)) ⌝ }
-    ensures { λ _. ⌜ now (out .exit) ≡ switchedBatch (basisIn p) n m (now (key .entry)) count (now (input .entry)) ⌝ }
+    out: &mut [u32],
+) -> u32
+    ensures { λ r. ⌜ SwitchesBatch params (now (key .entry)) (now (input .entry))
+        (now (out .entry)) r (now (out .exit)) ⌝ }
 {
-    let mut acc: [u64; 16392] = [0; 16392];
-    let mut done = 0;
-    while done < count {
-        let rows = up_to_eight(count - done);
-        let room = rows * (m + 1);
-        let from = done * (m + 1);
-        let to = from + room;
-        let first = done * (n + 1);
-        let last = first + rows * (n + 1);
-        switch_tile(
-            &mut acc[0..room],
-            &mut out[from..to],
-            &input[first..last],
-            key,
-            n,
-            m,
-            rows,
-            p,
-        );
-        done += rows;
+    let n = params.input_dimension.get();
+    let m = params.output_dimension.get();
+    let count = checks::batch_count(input.len(), n);
+    let input_differs = checks::batch_differs(input.len(), n);
+    let output_differs = checks::ciphertexts_differ(out.len(), count, m);
+    let r = switch_refusal(params, key, input, input_differs, output_differs);
+    if r != 0 {
+        return r;
     }
+    switch_judged(out, input, key, count, params);
+    0
 }

@@ -9,7 +9,7 @@ use lib.Dec.{eqb, ltb, leb}
 use lib.ListN.{length, getD}
 use borrow.Author.Tests.{lt-ltb, le-ltb, leb-true, leb-false, not-false}
 use Rattle.scheme.specs.Numbers.{pick, tabulate}
-use Rattle.scheme.specs.Checks.{Check, applies, firstIn, refusal, allOf}
+use Rattle.scheme.specs.Checks.{Check, applies, firstIn, refusal, allOf, wordsFail}
 use Rattle.scheme.proofs.Lists.{length-tabulate, getD-tabulate}
 use Rattle.checks.proofs.Laws.{anyFails, any-hit, any-more, any-all}
 use Rattle.primus_lattice.specs.declared.tag.Tally.{Tally}
@@ -36,6 +36,10 @@ module _ (p : ℕ → Bool) (n : ℕ) (f : ℕ → ℕ) (i : ℕ) where
 
   pub scan-end : {b : Bool} → n ≤ i → b ≡ anyFails p (tabulate n f) i → b ≡ not (allOf p (tabulate n f))
   scan-end h e = any-all p 0 (tabulate n f) i e (omega (arith, length-tabulate n f))
+
+pub words-end : (q n : ℕ) (f : ℕ → ℕ) (i : ℕ) {b : Bool} → n ≤ i → b ≡ anyFails (λ x. ltb x q) (tabulate n f) i → b ≡ wordsFail q (tabulate n f)
+unfolding wordsFail
+words-end q n f i h e = scan-end (λ x. ltb x q) n f i h e
 
 all-at : (p : ℕ → Bool) (xs : List ℕ) (i : ℕ) → allOf p xs ≡ true → i < length xs → p (getD xs i 0) ≡ true
 unfolding allOf

@@ -14,6 +14,10 @@ use Rattle.checks.specs.declared.WordAnswer.{WordAnswer}
 use Rattle.primus_lwe.specs.declared.parameter.LweEncryptionParameters.{LweEncryptionParameters}
 use Rattle.primus_lwe.specs.declared.parameter.LweParameters.{LweParameters}
 use Rattle.primus_lwe.specs.Answers.{Encrypts, EncryptsMessage, TakesPhase, Decrypts}
+use Rattle.primus_lwe_batch.specs.Answers.{EncryptsBatch, TakesPhases, DecryptsBatch}
+use Rattle.key_switch_key.specs.declared.parameters.LweKeySwitchingParameters.{LweKeySwitchingParameters}
+use Rattle.key_switch_key.specs.Answers.{Generates}
+use Rattle.key_switch.specs.Answers.{Switches, SwitchesBatch}
 use Rattle.saigagalena.specs.Bases.{WritesBasis, WritesReading}
 
 module _ {b d : ApproxSignedBasis} (e : b ≡ d) {r : ℕ} where
@@ -46,6 +50,9 @@ module _ {P Q : LweEncryptionParameters} (e : P ≡ Q) where
   pub takes-phase-of : {key : Key} {x : List ℕ} {answer : WordAnswer} → TakesPhase P key x answer → TakesPhase Q key x answer
   takes-phase-of {key} {x} {answer} h = subst (λ (z : LweEncryptionParameters). TakesPhase z key x answer) e h
 
+  pub takes-phases-of : {key : Key} {x before after : List ℕ} {r : ℕ} → TakesPhases P key x before r after → TakesPhases Q key x before r after
+  takes-phases-of {key} {x} {before} {after} {r} h = subst (λ (z : LweEncryptionParameters). TakesPhases z key x before r after) e h
+
 module _ {P Q : LweParameters} (e : P ≡ Q) where
   pub encrypts-message-of : {g f : PlaintextEmbedding} → g ≡ f → {key : Key} {a : List ℕ} {es : List ℤ} {x : ℕ} {before after : List ℕ} {r : ℕ}
       → EncryptsMessage P g key a es x before r after → EncryptsMessage Q f key a es x before r after
@@ -55,3 +62,24 @@ module _ {P Q : LweParameters} (e : P ≡ Q) where
 
   pub decrypts-of : {key : Key} {x : List ℕ} {answer : WordAnswer} → Decrypts P key x answer → Decrypts Q key x answer
   decrypts-of {key} {x} {answer} h = subst (λ (z : LweParameters). Decrypts z key x answer) e h
+
+  pub encrypts-batch-of : {g f : PlaintextEmbedding} → g ≡ f → {key : Key} {masks : List ℕ} {es : List ℤ} {xs before after : List ℕ} {r : ℕ}
+      → EncryptsBatch P g key masks es xs before r after → EncryptsBatch Q f key masks es xs before r after
+  encrypts-batch-of {g} {f} eg {key} {masks} {es} {xs} {before} {after} {r} h =
+      subst (λ (z : PlaintextEmbedding). EncryptsBatch Q z key masks es xs before r after) eg
+      (subst (λ (z : LweParameters). EncryptsBatch z g key masks es xs before r after) e h)
+
+  pub decrypts-batch-of : {key : Key} {x before after : List ℕ} {r : ℕ} → DecryptsBatch P key x before r after → DecryptsBatch Q key x before r after
+  decrypts-batch-of {key} {x} {before} {after} {r} h = subst (λ (z : LweParameters). DecryptsBatch z key x before r after) e h
+
+module _ {P Q : LweKeySwitchingParameters} (e : P ≡ Q) where
+  pub generates-of : {E : ℕ} {key : Key} {s′ masks : List ℕ} {es : List ℤ} {before after : List ℕ} {r : ℕ}
+      → Generates P E key s′ masks es before r after → Generates Q E key s′ masks es before r after
+  generates-of {E} {key} {s′} {masks} {es} {before} {after} {r} h =
+      subst (λ (z : LweKeySwitchingParameters). Generates z E key s′ masks es before r after) e h
+
+  pub switches-of : {key x before after : List ℕ} {r : ℕ} → Switches P key x before r after → Switches Q key x before r after
+  switches-of {key} {x} {before} {after} {r} h = subst (λ (z : LweKeySwitchingParameters). Switches z key x before r after) e h
+
+  pub switches-batch-of : {key x before after : List ℕ} {r : ℕ} → SwitchesBatch P key x before r after → SwitchesBatch Q key x before r after
+  switches-batch-of {key} {x} {before} {after} {r} h = subst (λ (z : LweKeySwitchingParameters). SwitchesBatch z key x before r after) e h

@@ -43,7 +43,7 @@ readingRows b a room = rows b ++ row (lengthFails room 2) 11 ∷ row (wordFails 
 -- the reading and ε
 pub record WritesReading (b : ApproxSignedBasis) (a : ℕ) (before : List ℤ) (r : ℕ) (after : List ℤ) : Type 0 where
   pub writes :
-    Writes (readingRows b a (length before)) (reading (basis b) a ∷ rounding (basis b) a ∷ []) before r after
+      Writes (readingRows b a (length before)) (reading (basis b) a ∷ rounding (basis b) a ∷ []) before r after
 
 -- an answer is written, or where it is a refusal handed on
 abbrev pub Wrote : ReadingAnswer → List ℤ → ℕ → List ℤ → Type 0

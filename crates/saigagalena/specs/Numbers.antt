@@ -9,6 +9,8 @@ use Rattle.primus_encoding.specs.declared.PlaintextEmbedding.the-variants.{Unsi
 use Rattle.primus_lattice.specs.Answers.{given}
 use Rattle.primus_lwe.specs.declared.parameter.LweEncryptionParameters.{LweEncryptionParameters}
 use Rattle.primus_lwe.specs.declared.parameter.LweParameters.{LweParameters}
+use Rattle.key_switch_key.specs.declared.parameters.LweKeySwitchingParameters.{LweKeySwitchingParameters}
+use Rattle.key_switch_key.specs.Answers.{parametersWith}
 
 abbrev pub embeddingFor : ℕ → PlaintextEmbedding
 embeddingFor centered = pick (eqb centered 0) Unsigned Centered
@@ -20,3 +22,7 @@ encryptionWith q n e = record { dimension = given n; modulus = modulusFor q; «e
 -- q, n, t and E
 abbrev pub messagesWith : ℕ → ℕ → ℕ → ℕ → LweParameters
 messagesWith q n t e = record { dimension = given n; modulus = modulusFor q; «plaintext_modulus» = t; «error_limit» = e }
+
+-- q, base log, levels, n and m
+abbrev pub switchingWith : ℕ → ℕ → ℕ → ℕ → ℕ → LweKeySwitchingParameters
+switchingWith q b l n m = parametersWith (modulusFor q) b l n m

@@ -1,6 +1,8 @@
 // Phases and decryption, for C. The promises are those of primus_lwe, of the parameters that the numbers give.
 ghost use Rattle.scheme.specs.Lwe.{Words, Signed};
 ghost use Rattle.primus_lwe.specs.Answers.{TakesPhase, Decrypts};
+ghost use Rattle.primus_lwe_batch.specs.Answers.{TakesPhases, DecryptsBatch};
+ghost use Rattle.primus_lwe_packed.specs.Answers.{TakesPackedPhases, DecryptsPacked};
 ghost use Rattle.saigagalena.specs.Numbers.{encryptionWith, messagesWith};
 ghost use Rattle.saigagalena.specs.Service.{Tells};
 use crate::answers;
@@ -70,4 +72,74 @@ pub extern "C" fn saigagalena_decrypt_message_signed(
 {
     let params = parameters::messages_for(modulus, n, t, error_limit);
     answers::word_number(primus_lwe::decrypt_message_signed(params, secret, ciphertext))
+}
+
+// The phase of each ciphertext. Refuses by 2, 6, 9, 10, 11, 13, 14.
+#[no_mangle]
+pub extern "C" fn saigagalena_decrypt_phase_batch(
+    modulus: u32,
+    n: usize,
+    error_limit: u32,
+    secret: &[u32],
+    input: &[u32],
+    out: &mut [u32],
+) -> u32
+    ensures { λ r. ⌜ TakesPhases (encryptionWith modulus n «error_limit») (Words (now (secret .entry)))
+        (now (input .entry)) (now (out .entry)) r (now (out .exit)) ⌝ }
+{
+    let params = parameters::encryption_for(modulus, n, error_limit);
+    primus_lwe_batch::decrypt_phase_batch_to(params, secret, input, out)
+}
+
+// decode of the phase of each ciphertext. Refuses by 2, 6, 7, 8, 9, 10, 11, 13, 14.
+#[no_mangle]
+pub extern "C" fn saigagalena_decrypt_message_batch(
+    modulus: u32,
+    n: usize,
+    t: u32,
+    error_limit: u32,
+    secret: &[u32],
+    input: &[u32],
+    out: &mut [u32],
+) -> u32
+    ensures { λ r. ⌜ DecryptsBatch (messagesWith modulus n t «error_limit») (Words (now (secret .entry)))
+        (now (input .entry)) (now (out .entry)) r (now (out .exit)) ⌝ }
+{
+    let params = parameters::messages_for(modulus, n, t, error_limit);
+    primus_lwe_batch::decrypt_message_batch_to(params, secret, input, out)
+}
+
+// The phase of each body. Refuses by 2, 6, 9, 10, 11, 13, 14.
+#[no_mangle]
+pub extern "C" fn saigagalena_decrypt_phase_packed(
+    modulus: u32,
+    n: usize,
+    error_limit: u32,
+    secret: &[u32],
+    input: &[u32],
+    out: &mut [u32],
+) -> u32
+    ensures { λ r. ⌜ TakesPackedPhases (encryptionWith modulus n «error_limit») (now (secret .entry))
+        (now (input .entry)) (now (out .entry)) r (now (out .exit)) ⌝ }
+{
+    let params = parameters::encryption_for(modulus, n, error_limit);
+    primus_lwe_packed::decrypt_phase_packed(params, secret, input, out)
+}
+
+// decode of the phase of each body. Refuses by 2, 6, 7, 8, 9, 10, 11, 13, 14.
+#[no_mangle]
+pub extern "C" fn saigagalena_decrypt_message_packed(
+    modulus: u32,
+    n: usize,
+    t: u32,
+    error_limit: u32,
+    secret: &[u32],
+    input: &[u32],
+    out: &mut [u32],
+) -> u32
+    ensures { λ r. ⌜ DecryptsPacked (messagesWith modulus n t «error_limit») (now (secret .entry))
+        (now (input .entry)) (now (out .entry)) r (now (out .exit)) ⌝ }
+{
+    let params = parameters::messages_for(modulus, n, t, error_limit);
+    primus_lwe_packed::decrypt_message_packed(params, secret, input, out)
 }

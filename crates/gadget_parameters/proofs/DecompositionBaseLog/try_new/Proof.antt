@@ -13,11 +13,5 @@ number c =
     let r = baseLogRows (c .before .before .args .log-basis) in
     only r (c .first .ensures r (record { basis = search needs; parameters = search needs; lengths = search needs })) refl
 
-returns : tie.Need-returns
-returns c = told Refused _ _ _ (number (c .before)) (c .if1 .taken)
-
-returns-2 : tie.Need-returns-2
-returns-2 c = given _ _ _ _ (sym (number (c .before)) ∙ c .if1 .left) refl
-
 pub try-new-spec : {M : Type 1} → statement M
-try-new-spec = tie.close (tie.spec (λ c κs. tt) (λ c κs. tt) returns returns-2)
+try-new-spec = tie.close (tie.spec (λ c κs. tt) (λ c κs. tt) (λ c. told Refused _ _ _ (number (c .before)) (c .if1 .taken)) (λ c. given _ _ _ _ (sym (number (c .before)) ∙ c .if1 .left) refl))

@@ -44,14 +44,9 @@ loop-again c =
     ∙ ap numberOfTally (m .sum .ensures ∙ ap₂ sumOf (held t) (t .tally-at .ensures))
     ∙ sym (getD-tabulate (length (a .tallies .now)) (placeSum (a .tallies .now) (a .bytes .now)) (l .loop .i) (omega arith)))
 
-same-length : tie.Need-same-length Inv-loop μ-loop
-same-length c = c .before .loop .inv .same
-
-returns : tie.Need-returns Inv-loop μ-loop
-returns c = let l = c .before in filled-end _ _ _ _ (l .loop .inv) (omega arith)
-
 pub add-tallies-spec : {M : Type 1} → statement M
 add-tallies-spec =
     tie.close
     (tie.spec Inv-loop μ-loop loop-holds (λ c. omega arith) (λ c. omega arith) (λ c κs. tt) (λ c κs. tt) sum-requires (λ c κs. tt) (λ c. omega arith)
-    (λ c. omega arith) (λ c. omega arith) (λ c. omega arith) loop-again same-length returns)
+    (λ c. omega arith) (λ c. omega arith) (λ c. omega arith) loop-again
+    (λ c. c .before .loop .inv .same) (λ c. filled-end _ _ _ _ (c .before .loop .inv) (omega arith)))

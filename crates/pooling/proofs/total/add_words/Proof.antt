@@ -37,14 +37,9 @@ loop-again c =
     ∙ ap (λ y. (getD (l .loop .total) (l .loop .i) 0 + y) % sizeOf (a .modulus))
     (w .word-at .ensures ∙ sym (getD-tabulate (length x) (fileWord (a .bytes .now)) (l .loop .i) (omega arith))))
 
-same-length : tie.Need-same-length Inv-loop μ-loop
-same-length c = c .before .loop .inv .same
-
-returns : tie.Need-returns Inv-loop μ-loop
-returns c = let l = c .before in filled-end _ _ _ _ (l .loop .inv) (omega arith)
-
 pub add-words-spec : {M : Type 1} → statement M
 add-words-spec =
     tie.close
     (tie.spec Inv-loop μ-loop loop-holds (λ c. omega arith) (λ c. omega arith) (λ c κs. tt) (λ c κs. tt) (λ c. omega arith) (λ c. omega arith)
-    (λ c. omega arith) (λ c. omega arith) loop-again same-length returns)
+    (λ c. omega arith) (λ c. omega arith) loop-again
+    (λ c. c .before .loop .inv .same) (λ c. filled-end _ _ _ _ (c .before .loop .inv) (omega arith)))

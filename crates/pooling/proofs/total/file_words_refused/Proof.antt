@@ -3,11 +3,10 @@ use mathlib.Core.Path.{_≡_, _∙_}
 use Prim.Native.Nat.{_≤_, _-_}
 use native.Mathlib.Omega.{arith}
 use lib.Dec.{ltb}
-use Rattle.scheme.specs.Checks.{wordsFail}
 use Rattle.checks.proofs.Laws.{anyFails, any-none}
 use Rattle.primus_reduce.specs.Ring.{sizeOf}
 use Rattle.saved.specs.Layout.{fileWord, fileWords}
-use Rattle.pooling.proofs.Laws.{scan-hit, scan-more, scan-end, word-hit, word-passes}
+use Rattle.pooling.proofs.Laws.{scan-hit, scan-more, words-end, word-hit, word-passes}
 use Rattle.pooling.proofs.total.file_words_refused.Statement.{statement}
 use Rattle.pooling.proofs.total.file_words_refused.Tie as tie
 
@@ -34,14 +33,8 @@ loop-again c =
           (c .if1 .came),
     )
 
-returns : tie.Need-returns Inv-loop μ-loop
-unfolding wordsFail
-returns c =
-    let l = c .before in
-    let a = l .before .before .args in
-    scan-end (λ x. ltb x (sizeOf (a .q))) (a .count) (fileWord (a .bytes .now)) (l .loop .i) (c .loop-test .left) (l .loop .inv .1)
-
 pub file-words-refused-spec : {M : Type 1} → statement M
 file-words-refused-spec =
     tie.close
-    (tie.spec Inv-loop μ-loop loop-holds (λ c κs. tt) (λ c κs. tt) (λ c. omega arith) (λ c. omega arith) loop-again returns)
+    (tie.spec Inv-loop μ-loop loop-holds (λ c κs. tt) (λ c κs. tt) (λ c. omega arith) (λ c. omega arith) loop-again
+    (λ c. words-end _ _ _ _ (c .loop-test .left) (c .before .loop .inv .1)))

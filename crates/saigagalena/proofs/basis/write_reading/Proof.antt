@@ -42,7 +42,6 @@ module _ (b : ApproxSignedBasis) (a : ℕ) where
       go true f w = record { writes = record { answered = w .0 ∙ sym (t ∙ eqb-true (refusal (wordRows b a)) 0 f); holds = w .1 ∙ rw (t, f) } }
       go false f w = record { writes = record { answered = w .0 ∙ sym t; holds = w .1 ∙ rw (t, f) } }
 
-
   -- the sizes have passed, so the output has two places
   fits : (room : ℕ) → firstIn (applies (outputRows b room 2)) sizes ≡ 0 → room ≡ 2
   unfolding firstIn

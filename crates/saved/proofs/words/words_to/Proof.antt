@@ -26,14 +26,9 @@ loop-again c =
     filled-next (fileWords (a .bytes .now) (length (a .out .now))) (a .out .now) (l .loop .out) (l .loop .i) (l .loop .inv) _ (omega arith)
     (c .word-at .ensures ∙ sym (getD-tabulate (length (a .out .now)) (fileWord (a .bytes .now)) (l .loop .i) (omega arith)))
 
-same-length : tie.Need-same-length Inv-loop μ-loop
-same-length c = c .before .loop .inv .same
-
-returns : tie.Need-returns Inv-loop μ-loop
-returns c = let l = c .before in filled-end _ _ _ _ (l .loop .inv) (omega arith)
-
 pub words-to-spec : {M : Type 1} → statement M
 words-to-spec =
     tie.close
     (tie.spec Inv-loop μ-loop loop-holds (λ c κs. tt) (λ c. omega arith) (λ c. omega arith) (λ c. omega arith) (λ c. omega arith)
-    loop-again same-length returns)
+    loop-again
+    (λ c. c .before .loop .inv .same) (λ c. filled-end _ _ _ _ (c .before .loop .inv) (omega arith)))

@@ -1,0 +1,10 @@
+use borrow.Author.Needs.{needs}
+use Rattle.saigagalena.proofs.Promises.{switches-of}
+use Rattle.saigagalena.proofs.switch.saigagalena_key_switch.Statement.{statement}
+use Rattle.saigagalena.proofs.switch.saigagalena_key_switch.Tie as tie
+
+returns : tie.Need-returns
+returns c = let w = c .before .before in switches-of (w .before .before .switching-for .ensures) (w .key-switch-to .ensures)
+
+pub saigagalena-key-switch-spec : {M : Type 1} → statement M
+saigagalena-key-switch-spec = tie.close (tie.spec (λ c κs. tt) (λ c κs. tt) (λ c. search needs) returns)
