@@ -9,7 +9,8 @@ use lib.ListN.{length, getD, take, drop}
 use Rattle.scheme.specs.Numbers.{pick}
 use Rattle.scheme.specs.Lwe.{Key, secretOf, keyLength, encrypted, phaseOf}
 use Rattle.scheme.specs.Codec.{decode}
-use Rattle.scheme.specs.Checks.{Check, row, refusal, Writes, modulusFails, dimensionFails, plaintextFails, smallFails, lengthFails, errorLimitFails, wordFails, wordsFail, keyFails, errorsFail, messageFails}
+use Rattle.scheme.specs.Checks.{Check, row, refusal, Writes, modulusFails, dimensionFails, plaintextFails, smallFails}
+use Rattle.scheme.specs.Checks.{lengthFails, errorLimitFails, wordFails, wordsFail, keyFails, errorsFail, messageFails}
 use Rattle.primus_reduce.specs.Ring.{meant, sizeOf}
 use Rattle.primus_reduce.specs.declared.modulus.Modulus.{Modulus}
 use Rattle.primus_encoding.specs.declared.PlaintextEmbedding.{PlaintextEmbedding}
@@ -45,16 +46,12 @@ parametersRows P =
     ∷ row (errorLimitFails (sizeOf (P .modulus)) (P .«error_limit»)) 13
     ∷ []
 
--- 2, 6 and 13, with what a call says of 7 and 8: false where it takes no t
-abbrev pub judgedRows : Bool → Bool → LweEncryptionParameters → List Check
-judgedRows plaintext small P = row plaintext 7 ∷ row small 8 ∷ encryptionParametersRows P
-
 abbrev pub parametersAnswer : LweParameters → LweParametersAnswer
 parametersAnswer P =
     let r = refusal (parametersRows P) in
     pick (eqb r 0) (L.Accepted P) (L.Refused r)
 
--- ---- one ciphertext
+-- ---- a plaintext, and its phase
 
 -- an encryption of p with mask a and the lent errors es into `room` words
 abbrev pub encryptRows : LweEncryptionParameters → Key → List ℕ → List ℤ → ℕ → ℕ → List Check
@@ -71,10 +68,12 @@ encryptRows P key a es p room =
     ∷ []
 
 -- "b = ⟨a, s⟩ + e + p": the output holds a and b
-pub record Encrypts (P : LweEncryptionParameters) (key : Key) (a : List ℕ) (es : List ℤ) (p : ℕ) (before : List ℕ) (r : ℕ) (after : List ℕ) : Type 0 where
+pub record Encrypts (P : LweEncryptionParameters) (key : Key) (a : List ℕ) (es : List ℤ) (p : ℕ) (before : List ℕ)
+    (r : ℕ) (after : List ℕ) : Type 0 where
   pub writes :
       Writes (encryptRows P key a es p (length before))
-      (encrypted (sizeOf (P .modulus)) (P .dimension .0) a (secretOf key) (getD es 0 (pos 0)) (pos p)) before r after
+      (encrypted (sizeOf (P .modulus)) (P .dimension .0) a (secretOf key) (getD es 0 (pos 0)) (pos p))
+      before r after
 
 -- what a phase and a decryption of the ciphertext x are judged by besides their parameters
 abbrev pub ciphertextRows : Modulus → ℕ → Key → List ℕ → List Check
@@ -91,6 +90,8 @@ phaseRows P key x = encryptionParametersRows P ++ ciphertextRows (P .modulus) (P
 -- "Phase = b − ⟨a, s⟩"
 pub record TakesPhase (P : LweEncryptionParameters) (key : Key) (x : List ℕ) (answer : WordAnswer) : Type 0 where
   pub is : answer ≡ wordAnswer (phaseRows P key x) (phaseOf (sizeOf (P .modulus)) (P .dimension .0) x (secretOf key))
+
+-- ---- a message below t
 
 -- the plaintext of the message x, and those of the messages xs
 abbrev pub encoded : PlaintextEmbedding → LweParameters → ℕ → ℤ
@@ -114,10 +115,12 @@ messageRows P key a es x room =
     ∷ []
 
 -- "b = ⟨a, s⟩ + e + p" of the plaintext p of x
-pub record EncryptsMessage (P : LweParameters) (g : PlaintextEmbedding) (key : Key) (a : List ℕ) (es : List ℤ) (x : ℕ) (before : List ℕ) (r : ℕ) (after : List ℕ) : Type 0 where
+pub record EncryptsMessage (P : LweParameters) (g : PlaintextEmbedding) (key : Key) (a : List ℕ) (es : List ℤ) (x : ℕ)
+    (before : List ℕ) (r : ℕ) (after : List ℕ) : Type 0 where
   pub writes :
       Writes (messageRows P key a es x (length before))
-      (encrypted (sizeOf (P .modulus)) (P .dimension .0) a (secretOf key) (getD es 0 (pos 0)) (encoded g P x)) before r after
+      (encrypted (sizeOf (P .modulus)) (P .dimension .0) a (secretOf key) (getD es 0 (pos 0)) (encoded g P x))
+      before r after
 
 abbrev pub decryptRows : LweParameters → Key → List ℕ → List Check
 decryptRows P key x = parametersRows P ++ ciphertextRows (P .modulus) (P .dimension .0) key x
@@ -126,15 +129,20 @@ decryptRows P key x = parametersRows P ++ ciphertextRows (P .modulus) (P .dimens
 pub record Decrypts (P : LweParameters) (key : Key) (x : List ℕ) (answer : WordAnswer) : Type 0 where
   pub is :
       answer ≡ wordAnswer (decryptRows P key x)
-      (decode (sizeOf (P .modulus)) (P .«plaintext_modulus») (phaseOf (sizeOf (P .modulus)) (P .dimension .0) x (secretOf key)))
+      (decode (sizeOf (P .modulus)) (P .«plaintext_modulus»)
+      (phaseOf (sizeOf (P .modulus)) (P .dimension .0) x (secretOf key)))
+
+-- ---- for the steps, and no part of a promise
+
+-- 2, 6 and 13, with what a call says of 7 and 8: false where it takes no t
+abbrev pub judgedRows : Bool → Bool → LweEncryptionParameters → List Check
+judgedRows plaintext small P = row plaintext 7 ∷ row small 8 ∷ encryptionParametersRows P
 
 -- what a codec asks: 2, 7 and 8 do not apply
 pub record Codable (P : LweParameters) : Type 0 where
   pub modulus-ok : modulusFails (meant (P .modulus)) ≡ false
   pub plaintext-ok : plaintextFails (P .«plaintext_modulus») ≡ false
   pub small-ok : smallFails (P .«plaintext_modulus») (meant (P .modulus)) ≡ false
-
--- ---- runs of ciphertexts
 
 -- what writing a run asks, of n and the lengths of masks, errors and output: a row for each error
 pub record Run (q n masks errors room : ℕ) : Type 0 where

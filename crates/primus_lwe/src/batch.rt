@@ -1,4 +1,4 @@
-// Runs of ciphertexts, one after the other: n mask words, then the body. Masks and errors are lent in order of the rows.
+// Runs of ciphertexts, n mask words and the body each. Masks and errors are lent in order of the rows.
 ghost use mathlib.Core.Path.{_≡_};
 ghost use Prim.Native.Nat.{_+_, _*_, _<_, _≤_};
 ghost use lib.IntN.{pos};
@@ -11,7 +11,7 @@ use crate::secret_key::KeyForm;
 use crate::secret_key::encrypt_to;
 use primus_reduce::Modulus;
 
-// Row i in its place, for calls that have judged what they are lent: mask i, and the body ⟨a, s⟩ + e + p with error i.
+// A step for calls that have judged what they are lent: row i in its place, with mask i and error i.
 pub fn encrypt_row(
     out: &mut [u32],
     form: KeyForm,

@@ -1,5 +1,4 @@
 -- What each call on a batch is judged by, and what it promises. Masks and errors are lent in order of the rows.
-use mathlib.Core.Bool.{Bool}
 use mathlib.Core.List.{List, [], _∷_, _++_}
 use mathlib.Core.Path.{_≡_}
 use Prim.Native.Nat.{ℕ, _+_, _*_, _/_, _<_}
@@ -8,7 +7,8 @@ use lib.ListN.{length}
 use Rattle.scheme.specs.Numbers.{tabulate}
 use Rattle.scheme.specs.Lwe.{Key, secretOf, keyLength, signed, encryptedRows, phaseOf, rowOf}
 use Rattle.scheme.specs.Codec.{decode}
-use Rattle.scheme.specs.Checks.{Check, row, Writes, lengthFails, batchFails, wordsFail, keyFails, errorsFail, messagesFail}
+use Rattle.scheme.specs.Checks.{Check, row, Writes, lengthFails, batchFails}
+use Rattle.scheme.specs.Checks.{wordsFail, keyFails, errorsFail, messagesFail}
 use Rattle.primus_reduce.specs.Ring.{sizeOf}
 use Rattle.primus_reduce.specs.declared.modulus.Modulus.{Modulus}
 use Rattle.primus_encoding.specs.declared.PlaintextEmbedding.{PlaintextEmbedding}
@@ -72,13 +72,6 @@ pub record DecryptsBatch (P : LweParameters) (key : Key) (x before : List ℕ) (
       (λ i. decode (sizeOf (P .modulus)) (P .«plaintext_modulus»)
       (batchPhase (sizeOf (P .modulus)) (P .dimension .0) key x i)))
       before r after
-
--- with what a call says of 7 and 8, for one function that judges both
-abbrev pub judgedRows : Bool → Bool → LweEncryptionParameters → Key → List ℕ → ℕ → List Check
-judgedRows plaintext small P key x room =
-    row plaintext 7
-    ∷ row small 8
-    ∷ phasesRows P key x room
 
 -- what taking phases asks, of n and the lengths of input and output: a row for each word of the output
 pub record Rowwise (q n words room : ℕ) : Type 0 where

@@ -1,4 +1,4 @@
-// Batches of LWE ciphertexts under a secret key: n + 1 words each, one after the other. Random masks and errors are lent.
+// Batches of LWE ciphertexts under a secret key, one after the other. Random masks and errors are lent.
 mod message_batch;
 mod sizes;
 

@@ -1,14 +1,16 @@
 // Messages and phases of a batch.
 ghost use mathlib.Core.Path.{_≡_};
 ghost use mathlib.Core.Bool.{false};
+ghost use mathlib.Core.List.{_++_};
 ghost use Prim.Native.Nat.{_+_, _*_, _<_, _≤_};
 ghost use lib.ListN.{length};
 ghost use Rattle.scheme.specs.Numbers.{tabulate};
 ghost use Rattle.scheme.specs.Lwe.{Words, words, signed, encryptedRows};
 ghost use Rattle.scheme.specs.Checks.{refusal, messagesFail};
 ghost use Rattle.primus_reduce.specs.Ring.{sizeOf};
-ghost use Rattle.primus_lwe.specs.Answers.{Codable, encodings, Run};
-ghost use Rattle.primus_lwe_batch.specs.Answers.{encryptBatchRows, EncryptsBatch, Rowwise, batchPhase, judgedRows, TakesPhases, DecryptsBatch};
+ghost use Rattle.primus_lwe.specs.Answers.{judgedRows, Codable, encodings, Run};
+ghost use Rattle.primus_lwe_batch.specs.Answers.{encryptBatchRows, EncryptsBatch, Rowwise, batchPhase};
+ghost use Rattle.primus_lwe_batch.specs.Answers.{batchRows, TakesPhases, DecryptsBatch};
 use crate::sizes;
 use checks::Values;
 use primus_encoding::PlaintextEmbedding;
@@ -90,7 +92,7 @@ fn encrypt_refusal(
     v.first()
 }
 
-// An encryption of encode(m) for each message. Refuses by 2, 6, 7, 8, 9, 11, 12, 13, 14, 15, 16; no message is no refusal.
+// An encryption of encode(m) for each message, if any. Refuses by 2, 6, 7, 8, 9, 11, 12, 13, 14, 15, 16.
 pub fn encrypt_message_batch_to(
     params: LweParameters,
     embedding: PlaintextEmbedding,
@@ -137,7 +139,7 @@ fn row_phases(out: &mut [u32], input: &[u32], secret: &[u32], modulus: Modulus)
     }
 }
 
-// What phases and messages of a batch are refused by; a call without t gives false for 7 and 8.
+// What refuses phases or messages of a batch; a call without t gives false for 7 and 8.
 fn decrypt_refusal(
     params: LweEncryptionParameters,
     plaintext: bool,
@@ -146,8 +148,9 @@ fn decrypt_refusal(
     input: &[u32],
     room: usize,
 ) -> u32
-    ensures { λ r. ⌜ r ≡
-        refusal (judgedRows plaintext small params (Words (now (secret .entry))) (now (input .entry)) room) ⌝ }
+    ensures { λ r. ⌜ r ≡ refusal (judgedRows plaintext small params
+        ++ batchRows (params .modulus) (params .dimension .0) (Words (now (secret .entry))) (now (input .entry))
+        room) ⌝ }
 {
     let modulus = params.modulus;
     let dimension = params.dimension;

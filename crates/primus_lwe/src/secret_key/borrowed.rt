@@ -49,7 +49,7 @@ fn encrypt_mask_body(
     write(out, mask, body);
 }
 
-// The innermost step, for calls that have judged what they are lent: the mask, and the body ⟨a, s⟩ + e + p with lent error i.
+// A step for calls that have judged what they are lent: the mask, and the body ⟨a, s⟩ + e + p with lent error i.
 pub fn encrypt_to(
     out: &mut [u32],
     form: KeyForm,
@@ -245,7 +245,7 @@ pub(crate) fn decrypt_refusal(
     v.first()
 }
 
-// b − ⟨a, s⟩, for calls that have judged what they are lent. The key has no number for the body, so in the inner product it counts as 0.
+// A step for calls that have judged what they are lent: b − ⟨a, s⟩. The key has no number for the body: 0.
 pub fn phase(
     form: KeyForm,
     words: &[u32],

@@ -1,5 +1,5 @@
-// A lent secret key of either form. No enum holds a slice, so what stands for the Rust's `LweSecretKeyRef` is the form and two slices,
-// of which the one that the form does not name is empty. Each function here is exact for every input.
+// A lent secret key of either form. No enum holds a slice: the form and two slices are the Rust's `LweSecretKeyRef`,
+// and the slice that the form does not name is empty. Each function here is exact for every input.
 ghost use mathlib.Core.Path.{_≡_};
 ghost use mathlib.Core.Bool.{_||_};
 ghost use lib.IntN.{pos};
@@ -15,16 +15,6 @@ use primus_reduce::Modulus;
 pub enum KeyForm {
     Words,
     Signed,
-}
-
-// How many numbers the key has.
-pub fn key_length(form: KeyForm, words: &[u32], signed: &[i32]) -> usize
-    ensures { λ r. ⌜ r ≡ keyLength (keyOf form (now (words .entry)) (now (signed .entry))) ⌝ }
-{
-    match form {
-        KeyForm::Words => words.len(),
-        KeyForm::Signed => signed.len(),
-    }
 }
 
 // 9: the key does not have n numbers.
@@ -63,7 +53,7 @@ pub fn key_or_words_refused(
 }
 
 // ⟨a, s⟩ over the places of a; what the key lacks counts as 0.
-pub fn key_product(
+pub(crate) fn key_product(
     form: KeyForm,
     words: &[u32],
     signed: &[i32],

@@ -1,4 +1,4 @@
-use mathlib.Core.Path.{_≡_, sym, ap₂, _∙_}
+use mathlib.Core.Path.{_≡_, refl, sym, ap₂, _∙_}
 use Prim.Native.Nat.{ℕ}
 use borrow.Author.Needs.{needs}
 use lib.ListN.{length}
@@ -7,8 +7,9 @@ use Rattle.scheme.specs.Lwe.{Words}
 use Rattle.scheme.specs.Checks.{refusal}
 use Rattle.scheme.proofs.Order.{refused, done}
 use Rattle.primus_reduce.specs.Ring.{sizeOf}
-use Rattle.primus_lwe_batch.specs.Answers.{phasesRows, batchPhase}
-use Rattle.primus_lwe_batch.proofs.Laws.{Phasable, phasable, judged-phases}
+use Rattle.primus_lwe.proofs.Laws.{judged-without}
+use Rattle.primus_lwe_batch.specs.Answers.{batchRows, phasesRows, batchPhase}
+use Rattle.primus_lwe_batch.proofs.Laws.{Phasable, phasable}
 use Rattle.primus_lwe_batch.proofs.message_batch.decrypt_phase_batch_to.Statement.{statement}
 use Rattle.primus_lwe_batch.proofs.message_batch.decrypt_phase_batch_to.Tie as tie
 
@@ -19,7 +20,7 @@ number : (c : tie.After-decrypt-refusal) → let a = start c .args in
     c .decrypt-refusal .result ≡ refusal (phasesRows (a .params) (Words (a .secret .now)) (a .input .now) (length (a .out .now)))
 number c =
     let a = start c .args in
-    c .decrypt-refusal .ensures ∙ judged-phases (Words (a .secret .now)) (a .input .now) (length (a .out .now)) (a .params)
+    c .decrypt-refusal .ensures ∙ judged-without (batchRows (a .params .modulus) (a .params .dimension .0) (Words (a .secret .now)) (a .input .now) (length (a .out .now))) (a .params) refl refl
 
 ready : (c : tie.Else1) → let a = start (c .before) .args in
     Phasable (a .params .modulus) (a .params .dimension .0) (length (a .secret .now)) (length (a .input .now)) (length (a .out .now))

@@ -1,15 +1,16 @@
 use mathlib.Core.Path.{_≡_}
-use mathlib.Core.List.{List}
+use mathlib.Core.List.{List, _++_}
 use borrow.Author.Needs.{needs}
 use Rattle.scheme.specs.Checks.{Check}
 use Rattle.scheme.specs.Lwe.{Words}
 use Rattle.scheme.proofs.Order.{Sized, early, late}
-use Rattle.primus_lwe_batch.specs.Answers.{judgedRows}
+use Rattle.primus_lwe.specs.Answers.{judgedRows}
+use Rattle.primus_lwe_batch.specs.Answers.{batchRows}
 use Rattle.primus_lwe_batch.proofs.message_batch.decrypt_refusal.Statement.{statement}
 use Rattle.primus_lwe_batch.proofs.message_batch.decrypt_refusal.Tie as tie
 
 abbrev rows : tie.After-first → List Check
-rows c = let a = c .before .before .before .before .before .before .before .before .args in judgedRows (a .plaintext) (a .small) (a .params) (Words (a .secret .now)) (a .input .now) (a .room)
+rows c = let a = c .before .before .before .before .before .before .before .before .args in judgedRows (a .plaintext) (a .small) (a .params) ++ batchRows (a .params .modulus) (a .params .dimension .0) (Words (a .secret .now)) (a .input .now) (a .room)
 
 sized : (c : tie.After-first) → Sized (rows c) (c .first .result)
 sized c = c .first .ensures (rows c) (record { basis = search needs; parameters = search needs; lengths = search needs })
