@@ -15,16 +15,9 @@ rows c =
 sized : (c : tie.After-first) → Sized (rows c) (c .first .result)
 sized c = c .first .ensures (rows c) (record { basis = search needs; parameters = search needs; lengths = search needs })
 
-returns : tie.Need-returns
-returns c = early (rows (c .before)) (sized (c .before)) (c .if1 .taken)
-
-returns-2 : tie.Need-returns-2
-returns-2 c =
-    let e = c .before .before .before in
-    let r = rows (e .before) in
-    late r (sized (e .before)) (e .if1 .left) (c .first2 .ensures r (search needs))
-
 pub generate-refusal-spec : {M : Type 1} → statement M
 generate-refusal-spec =
     tie.close
-    (tie.spec (λ c κs. tt) (λ c κs. tt) (λ c κs. tt) (λ c κs. tt) (λ c κs. tt) (λ c κs. tt) returns (λ c κs. tt) (λ c κs. tt) (λ c κs. tt) returns-2)
+    (tie.spec (λ c κs. tt) (λ c κs. tt) (λ c κs. tt) (λ c κs. tt) (λ c κs. tt) (λ c κs. tt) (λ c. early (rows (c .before)) (sized (c .before)) (c .if1 .taken))
+    (λ c κs. tt) (λ c κs. tt) (λ c κs. tt)
+    (λ c. let e = c .before .before .before in late (rows (e .before)) (sized (e .before)) (e .if1 .left) (c .first2 .ensures (rows (e .before)) (search needs))))
