@@ -36,7 +36,8 @@ batchRows P key input room =
 pub record Switches (P : LweKeySwitchingParameters) (key input before : List ℕ) (r : ℕ) (after : List ℕ)
     : Type 0 where
   pub writes :
-      Writes (switchRows P key input (length before)) (switched (basis (P .basis)) (nIn P) (mIn P) key input) before r after
+      Writes (switchRows P key input (length before))
+      (switched (basis (P .basis)) (nIn P) (mIn P) key input) before r after
 
 -- "Input and output are runs of ciphertexts": row t of the output is the one switch of row t of the input
 pub record SwitchesBatch (P : LweKeySwitchingParameters) (key input before : List ℕ) (r : ℕ) (after : List ℕ)
