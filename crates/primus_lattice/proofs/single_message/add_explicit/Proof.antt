@@ -23,9 +23,10 @@ add-below-requires : tie.Need-add-below-requires Inv-loop μ-loop
 add-below-requires c κs =
     let l = c .before .before .before in
     let s = l .before .before .before in
-    let a = s .args in
-    (subst (λ v. v < a .q) (sym (filled-word _ _ _ _ (l .loop .inv) (omega arith))) (words-ok (a .q) (a .x .now) (s .pre .1) _ (omega arith)),
-    words-ok (a .q) (a .y .now) (s .pre .2) _ (omega arith))
+    let a = s .args in (
+      subst (λ v. v < a .q) (sym (filled-word _ _ _ _ (l .loop .inv) (omega arith))) (words-ok (a .q) (a .x .now) (s .pre .1) _ (omega arith)),
+      words-ok (a .q) (a .y .now) (s .pre .2) _ (omega arith),
+    )
 
 loop-again : tie.Need-loop-again Inv-loop μ-loop
 loop-again c =
