@@ -65,7 +65,12 @@ pub fn encrypt_message_packed(
     LweAnswer::Written(lwe_tag::none())
 }
 
-fn packed_decrypt_refusal(params: LweDecryptionParameters, secret: &[u32], input: &[u32], room: usize) -> u32
+fn packed_decrypt_refusal(
+    params: LweDecryptionParameters,
+    secret: &[u32],
+    input: &[u32],
+    room: usize,
+) -> u32
     ensures { λ r. ⌜ r ≡ refusal (packedDecryptRows params (now (secret .entry)) (now (input .entry)) room) ⌝ }
 {
     let modulus = params.modulus;

@@ -286,11 +286,7 @@ fn phase_under(
 }
 
 // b − ⟨a, s⟩ modulo q. Refuses by 2, 6, 9, 10, 14.
-pub fn decrypt_phase(
-    params: LwePhaseParameters,
-    secret: &[u32],
-    ciphertext: &[u32],
-) -> WordAnswer
+pub fn decrypt_phase(params: LwePhaseParameters, secret: &[u32], ciphertext: &[u32]) -> WordAnswer
     ensures { λ r. ⌜ TakesPhase params (Words (now (secret .entry))) (now (ciphertext .entry)) r ⌝ }
 {
     phase_under(params, KeyForm::Words, secret, &[], ciphertext)

@@ -158,15 +158,7 @@ fn decrypt_under(
     let plaintext = checks::plaintext_refused(t);
     let small = checks::small_refused(t, modulus);
     let phases = params.phase_parameters();
-    let r = borrowed::decrypt_refusal(
-        phases,
-        plaintext,
-        small,
-        form,
-        words,
-        signed,
-        ciphertext,
-    );
+    let r = borrowed::decrypt_refusal(phases, plaintext, small, form, words, signed, ciphertext);
     if r != 0 {
         return WordAnswer::Refused(r);
     }
@@ -176,7 +168,11 @@ fn decrypt_under(
 }
 
 // decode of the phase. Refuses by 2, 6, 7, 8, 9, 10, 14.
-pub fn decrypt_message(params: LweDecryptionParameters, secret: &[u32], ciphertext: &[u32]) -> WordAnswer
+pub fn decrypt_message(
+    params: LweDecryptionParameters,
+    secret: &[u32],
+    ciphertext: &[u32],
+) -> WordAnswer
     ensures { λ r. ⌜ Decrypts params (Words (now (secret .entry))) (now (ciphertext .entry)) r ⌝ }
 {
     decrypt_under(params, KeyForm::Words, secret, &[], ciphertext)
