@@ -1,0 +1,57 @@
+-- What a call that gave no refusal leaves, and when a call gives none.
+--     wrote       a call that answered 0 has no refusal, and its buffer holds its result
+--     told        a call without a refusal answers its word
+--     accepts     where none of its conditions holds a call has no refusal
+--     words-fit   words below q are not refused by 14; length-fit: nor an equal length by 9 to 12
+-- Assumes nothing.
+use mathlib.Core.Path.{_≡_, refl, sym, ap, ap₂, _∙_}
+use mathlib.Core.Bool.{Bool, true, false, not, _||_, _&&_}
+use mathlib.Core.List.{List, [], _∷_}
+use Prim.Native.Nat.{ℕ, suc}
+use native.Mathlib.Omega.{arith}
+use lib.Dec.{eqb, ltb}
+use borrow.Author.Tests.{eq-eqb, lt-ltb}
+use Rattle.scheme.specs.Numbers.{pick}
+use Rattle.scheme.specs.Switch.{Below}
+use Rattle.scheme.specs.Checks.{Check, order, applies, firstIn, refusal, allOf, wordsFail, lengthFails, Writes}
+use Rattle.scheme.proofs.Order.{NoneHolds}
+use Rattle.checks.specs.Answers.{wordAnswer}
+use Rattle.checks.specs.declared.WordAnswer.the-variants.{Word}
+
+pub wrote : {A : Type 0} {rows : List Check} {result before after : List A} → Writes rows result before 0 after → (refusal rows ≡ 0) × (after ≡ result)
+wrote {rows = rows} w = let e : refusal rows ≡ 0 = sym (w .answered) in (e, w .holds ∙ rw (eq-eqb (refusal rows) 0 e))
+
+pub told : (rows : List Check) (x : ℕ) → refusal rows ≡ 0 → wordAnswer rows x ≡ Word x
+told rows x e = rw (eq-eqb (refusal rows) 0 e)
+
+-- ---- no condition holds, so no refusal
+
+silent : (rows : List Check) → NoneHolds rows → (k : ℕ) → applies rows k ≡ false
+silent [] h k = refl
+silent (c ∷ cs) h k = go (eqb (c .number) k) (silent cs (h .1) k)
+  where
+    go : (b : Bool) → applies cs k ≡ false → pick b (applies cs k || c .fails) (applies cs k) ≡ false
+    go true e = rw (e, h .0)
+    go false e = e
+
+pub accepts : (rows : List Check) → NoneHolds rows → refusal rows ≡ 0
+unfolding refusal firstIn
+accepts rows h = none order
+  where
+    none : (ks : List ℕ) → firstIn (applies rows) ks ≡ 0
+    none [] = refl
+    none (k ∷ ks) = rw (silent rows h k) (none ks)
+
+-- ---- conditions that do not hold
+
+all-below : (q : ℕ) (xs : List ℕ) → Below q xs → allOf (λ x. ltb x q) xs ≡ true
+unfolding allOf
+all-below q [] h = refl
+all-below q (x ∷ xs) h = ap₂ _&&_ (lt-ltb x q (h 0 (omega arith))) (all-below q xs (λ i k. h (suc i) (omega arith)))
+
+pub words-fit : (q : ℕ) (xs : List ℕ) → Below q xs → wordsFail q xs ≡ false
+unfolding wordsFail
+words-fit q xs h = ap not (all-below q xs h)
+
+pub length-fit : (x y : ℕ) → x ≡ y → lengthFails x y ≡ false
+length-fit x y e = ap not (eq-eqb x y e)

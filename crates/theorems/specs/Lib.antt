@@ -1,0 +1,2 @@
+-- What the theorems about calls say, in document 01's letters.
+pub mod Phases
