@@ -1,5 +1,6 @@
 -- What a call that gave no refusal leaves, and when a call gives none.
 --     wrote       a call that answered 0 has no refusal, and its buffer holds its result
+--     settled     a call that has no refusal answers 0, and its buffer holds its result
 --     told        a call without a refusal answers its word
 --     accepts     where none of its conditions holds a call has no refusal
 --     words-fit   words below q are not refused by 14; length-fit: nor an equal length by 9 to 12
@@ -18,8 +19,12 @@ use Rattle.scheme.proofs.Order.{NoneHolds}
 use Rattle.checks.specs.Answers.{wordAnswer}
 use Rattle.checks.specs.declared.WordAnswer.the-variants.{Word}
 
+pub settled : {A : Type 0} {rows : List Check} {result before after : List A} {r : ℕ} → Writes rows result before r after → refusal rows ≡ 0
+    → (r ≡ 0) × (after ≡ result)
+settled {rows = rows} w e = (w .answered ∙ e, w .holds ∙ rw (eq-eqb (refusal rows) 0 e))
+
 pub wrote : {A : Type 0} {rows : List Check} {result before after : List A} → Writes rows result before 0 after → (refusal rows ≡ 0) × (after ≡ result)
-wrote {rows = rows} w = let e : refusal rows ≡ 0 = sym (w .answered) in (e, w .holds ∙ rw (eq-eqb (refusal rows) 0 e))
+wrote w = (sym (w .answered), settled w (sym (w .answered)) .1)
 
 pub told : (rows : List Check) (x : ℕ) → refusal rows ≡ 0 → wordAnswer rows x ≡ Word x
 told rows x e = rw (eq-eqb (refusal rows) 0 e)

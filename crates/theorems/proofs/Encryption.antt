@@ -6,13 +6,13 @@
 --     public-phase                   under a public key that the call wrote; public-message-phase: a message
 -- The laws behind them speak of the definitions, where the call has no refusal.
 -- Assumes nothing.
-use mathlib.Core.Path.{_≡_, sym, ap₂, subst, _∙_}
+use mathlib.Core.Path.{_≡_, sym, ap₂, _∙_}
 use mathlib.Core.List.{List}
 use Prim.Native.Nat.{ℕ, _*_, _<_}
 use native.Mathlib.Omega.{arith}
 use lib.IntN.{ℤ, pos, _+ℤ_}
 use lib.ListN.{length, getD, take, drop}
-use Rattle.scheme.specs.Lwe.{Key, secretOf, keyLength, words, signed, encrypted, encryptedRows, packed, rowOf, publicKey, publicEncrypted}
+use Rattle.scheme.specs.Lwe.{Key, secretOf, words, signed, encrypted, encryptedRows, packed, rowOf, publicKey, publicEncrypted}
 use Rattle.scheme.specs.Checks.{refusal}
 use Rattle.scheme.proofs.Lwe.{phase-fresh, phase-packed}
 use Rattle.scheme.proofs.Public.{row-mask, row-encrypted, phase-public-key}
