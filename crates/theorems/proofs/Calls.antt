@@ -2,20 +2,17 @@
 --     wrote       a call that answered 0 has no refusal, and its buffer holds its result
 --     settled     a call that has no refusal answers 0, and its buffer holds its result
 --     told        a call without a refusal answers its word
---     accepts     where none of its conditions holds a call has no refusal
 --     words-fit   words below q are not refused by 14; length-fit: nor an equal length by 9 to 12
 -- Assumes nothing.
 use mathlib.Core.Path.{_≡_, refl, sym, ap, ap₂, _∙_}
-use mathlib.Core.Bool.{Bool, true, false, not, _||_, _&&_}
+use mathlib.Core.Bool.{true, false, not, _&&_}
 use mathlib.Core.List.{List, [], _∷_}
 use Prim.Native.Nat.{ℕ, suc}
 use native.Mathlib.Omega.{arith}
-use lib.Dec.{eqb, ltb}
+use lib.Dec.{ltb}
 use borrow.Author.Tests.{eq-eqb, lt-ltb}
-use Rattle.scheme.specs.Numbers.{pick}
 use Rattle.scheme.specs.Switch.{Below}
-use Rattle.scheme.specs.Checks.{Check, order, applies, firstIn, refusal, allOf, wordsFail, lengthFails, Writes}
-use Rattle.scheme.proofs.Order.{NoneHolds}
+use Rattle.scheme.specs.Checks.{Check, refusal, allOf, wordsFail, lengthFails, Writes}
 use Rattle.checks.specs.Answers.{wordAnswer}
 use Rattle.checks.specs.declared.WordAnswer.the-variants.{Word}
 
@@ -28,24 +25,6 @@ wrote w = (sym (w .answered), settled w (sym (w .answered)) .1)
 
 pub told : (rows : List Check) (x : ℕ) → refusal rows ≡ 0 → wordAnswer rows x ≡ Word x
 told rows x e = rw (eq-eqb (refusal rows) 0 e)
-
--- ---- no condition holds, so no refusal
-
-silent : (rows : List Check) → NoneHolds rows → (k : ℕ) → applies rows k ≡ false
-silent [] h k = refl
-silent (c ∷ cs) h k = go (eqb (c .number) k) (silent cs (h .1) k)
-  where
-    go : (b : Bool) → applies cs k ≡ false → pick b (applies cs k || c .fails) (applies cs k) ≡ false
-    go true e = rw (e, h .0)
-    go false e = e
-
-pub accepts : (rows : List Check) → NoneHolds rows → refusal rows ≡ 0
-unfolding refusal firstIn
-accepts rows h = none order
-  where
-    none : (ks : List ℕ) → firstIn (applies rows) ks ≡ 0
-    none [] = refl
-    none (k ∷ ks) = rw (silent rows h k) (none ks)
 
 -- ---- conditions that do not hold
 

@@ -1,3 +1,4 @@
 pub mod Calls
 pub mod Encryption
 pub mod Opening
+pub mod Switching

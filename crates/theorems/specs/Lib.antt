@@ -1,2 +1,3 @@
 -- What the theorems about calls say, in document 01's letters.
 pub mod Phases
+pub mod Switched
