@@ -5,7 +5,7 @@
 --     demand-3-of-calls    the outputs are equal in every word for every choice exactly when bodies and readings are
 -- Assumes nothing.
 use mathlib.Core.Path.{_≡_, refl, sym, ap₂, _∙_}
-use mathlib.Core.Bool.{false, _||_}
+use mathlib.Core.Bool.{_||_}
 use mathlib.Core.Logic.{_↔_}
 use mathlib.Core.List.{List, [], _∷_, _++_}
 use Prim.Native.Nat.{ℕ, _+_, _*_, _/_, _<_}
@@ -17,7 +17,7 @@ use Rattle.scheme.specs.Modulus.{Fits}
 use Rattle.scheme.specs.Basis.{Basis}
 use Rattle.scheme.specs.Lwe.{Key, secretOf, keyLength, words, signed, rowOf}
 use Rattle.scheme.specs.Switch.{Below, switchedBatch, generated, OutputsAgree, ReadingsAgree, Demand3}
-use Rattle.scheme.specs.Checks.{row, refusal, keyFails, batchFails, lengthFails, wordsFail, errorLimitFails, errorsFail}
+use Rattle.scheme.specs.Checks.{row, refusal, keyFails, lengthFails, wordsFail, errorLimitFails, errorsFail}
 use Rattle.scheme.proofs.Checks.{words-ok}
 use Rattle.scheme.proofs.Order.{passed, neither, done}
 use Rattle.scheme.proofs.Switch.{generated-length, generated-below}
@@ -31,6 +31,7 @@ use Rattle.key_switch.specs.Answers.{batchRows, SwitchesBatch}
 use Rattle.key_switch.proofs.Passed.{batch-passed}
 use Rattle.theorems.specs.Choices.{EqualOutputs, Choice}
 use Rattle.theorems.proofs.Calls.{wrote, words-fit, length-fit}
+use Rattle.theorems.proofs.Inputs.{inputs-accepted}
 use Rattle.theorems.proofs.Switching.{basis-accepted, lent-masks}
 
 pub generate-any-masks : (P : LweKeySwitchingParameters) (E : ℕ) (key : Key) (s′ masks others : List ℕ) (errors : List ℤ) (room : ℕ)
@@ -65,29 +66,15 @@ module _ (P : LweKeySwitchingParameters) (word : Fits 32 (meant (P .basis .modul
   abbrev count : List ℕ → ℕ
   count X = length X / (nIn P + 1)
 
-  -- a call with a key of which neither 9 nor 14 says anything
-  unkeyed : (key made X : List ℕ) (room : ℕ) → lengthFails (length made) (keyWords P) ≡ false → wordsFail (qIn P) made ≡ false
-      → refusal (batchRows P key X room) ≡ 0 → refusal (batchRows P made X room) ≡ 0
-  unkeyed key made X room nine fourteen e =
-      let no = passed (batchRows P key X room) e in
-      ap₂ (λ short foreign.
-      refusal (parameterRows P
-      ++ row short 9
-      ∷ row (batchFails (length X) (nIn P)) 10
-      ∷ row (lengthFails room (count X * (mIn P + 1))) 11
-      ∷ row foreign 14
-      ∷ row (wordsFail (qIn P) X) 14
-      ∷ []))
-      (nine ∙ sym (no 9 tt)) (fourteen ∙ sym (neither (wordsFail (qIn P) key) (wordsFail (qIn P) X) (no 14 tt) .0))
-      ∙ e
-
   pub batch-any-masks : (s s′ e : ℕ → ℤ) (masks key X : List ℕ) (room : ℕ) → length masks ≡ nIn P * levelsIn P * mIn P → Below (qIn P) masks
       → refusal (batchRows P key X room) ≡ 0 → refusal (batchRows P (generated (basis (P .basis)) (nIn P) (mIn P) s s′ e masks) X room) ≡ 0
   batch-any-masks s s′ e masks key X room l w ex =
       let made = generated b (nIn P) (mIn P) s s′ e masks in
       let q : 0 < qIn P = omega (arith, basis-accepted P word _ ex .fits, pow-pos (P .basis .«log_basis» .0)) in
-      unkeyed key made X room (length-fit _ _ (generated-length b (nIn P) (mIn P) s s′ e masks l))
-      (words-fit (qIn P) made (generated-below b (nIn P) (mIn P) s s′ e masks l q w)) ex
+      let no = passed (batchRows P key X room) ex in
+      inputs-accepted P key X _ _ ex made X _ _ (length-fit _ _ (generated-length b (nIn P) (mIn P) s s′ e masks l))
+      (words-fit (qIn P) made (generated-below b (nIn P) (mIn P) s s′ e masks l q w)) (no 10 tt) (no 11 tt)
+      (neither (wordsFail (qIn P) key) (wordsFail (qIn P) X) (no 14 tt) .1)
 
   -- demand 3 over the definitions, for batches that are accepted with any keys
   pub demand-3-accepted : (s s′ e : ℕ → ℤ) (keyX X : List ℕ) (roomX : ℕ) (keyY Y : List ℕ) (roomY : ℕ)
