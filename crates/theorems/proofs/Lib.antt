@@ -5,3 +5,4 @@ pub mod Switching
 pub mod Inputs
 pub mod Masks
 pub mod Cut
+pub mod Digits

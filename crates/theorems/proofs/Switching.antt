@@ -1,13 +1,14 @@
 -- Switching with a key that `generate` wrote. That an explicit modulus is a word of 32 bits is what its type says.
 --     switch-phase         one switch: output phase = input phase + error modulo q, and the error is within document 01's bound
 --     batch-switch-phase   the same of row t of a batch, whatever the other rows hold
+--     taken-cong           s taken as document 01 says agrees with s modulo q, and a word so taken is the nearer to zero: taken-least
 -- The laws behind them speak of the definitions, where the calls have no refusal.
 -- Assumes nothing.
 use mathlib.Core.Path.{_≡_}
 use mathlib.Core.List.{List, _++_}
 use Prim.Native.Nat.{ℕ, _+_, _*_, _/_, _<_, _≤_}
 use native.Mathlib.Omega.{arith}
-use lib.IntN.{ℤ, natAbs}
+use lib.IntN.{ℤ, pos, natAbs, _-ℤ_}
 use lib.ListN.{length, getD}
 use Rattle.scheme.specs.Modulus.{Fits}
 use Rattle.scheme.specs.Numbers.{Cong}
@@ -20,7 +21,7 @@ use Rattle.scheme.proofs.Checks.{length-ok, magnitudes-ok}
 use Rattle.scheme.proofs.Order.{passed, neither}
 use Rattle.scheme.proofs.Switch.{row-below, batch-row}
 use Rattle.scheme.proofs.Phase.{nearest-cong, phase-switched, phase-taken-as}
-use Rattle.scheme.proofs.Bound.{switch-bound}
+use Rattle.scheme.proofs.Bound.{nearest-least, switch-bound}
 use Rattle.primus_reduce.specs.Ring.{meant}
 use Rattle.primus_decompose.specs.Answers.{basis}
 use Rattle.gadget_constants.proofs.Sound.{sound-basis}
@@ -36,6 +37,11 @@ use Rattle.theorems.proofs.Calls.{wrote}
 pub taken-cong : (q : ℕ) (key : Key) (i : ℕ) → Cong q (secretOf key i) (takenAs q key i)
 taken-cong q (Words s) i = nearest-cong q (getD s i 0)
 taken-cong q (Signed s) i = cong-refl q (signed s i)
+
+-- of a word it is the nearer to zero
+pub taken-least : (q : ℕ) (s : List ℕ) (i : ℕ) → getD s i 0 ≤ q
+    → (natAbs (takenAs q (Words s) i) ≤ getD s i 0) × (natAbs (takenAs q (Words s) i) ≤ natAbs (pos (getD s i 0) -ℤ pos q))
+taken-least q s i = nearest-least q (getD s i 0)
 
 -- a call whose parameters pass has an accepted basis
 pub basis-accepted : (P : LweKeySwitchingParameters) → Fits 32 (meant (P .basis .modulus)) → (more : List Check) → refusal (parameterRows P ++ more) ≡ 0

@@ -2,3 +2,4 @@
 pub mod Phases
 pub mod Switched
 pub mod Choices
+pub mod Rebuilt
