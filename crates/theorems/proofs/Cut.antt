@@ -1,6 +1,7 @@
 -- A batch cut in two, so that its rows may be spread over threads and machines.
 --     batch-cut       where the whole is accepted and the first part is whole rows, both parts are accepted, and the output is theirs, one after the other
 --     batch-joined    where both parts are accepted, so is the whole, with the same output
+--     row-alone       row t of an accepted batch is accepted alone, and its one switch is row t of the output
 -- Assumes nothing.
 use mathlib.Core.Path.{_≡_, refl, sym, ap, ap₂, subst, _∙_}
 use mathlib.Core.Bool.{false, not}
@@ -18,11 +19,12 @@ use Rattle.scheme.specs.Switch.{Below, switched, switchedBatch}
 use Rattle.scheme.specs.Checks.{refusal, batchFails, wordsFail}
 use Rattle.scheme.proofs.Checks.{words-ok}
 use Rattle.scheme.proofs.Order.{passed, neither}
-use Rattle.scheme.proofs.Rows.{row-within, rows-ext, rows-split, append-below, part-at}
+use Rattle.scheme.proofs.Rows.{row-within, rows-ext, rows-split, append-below, part-at, part-length, part-below}
+use Rattle.scheme.proofs.Switch.{batch-row}
 use Rattle.primus_decompose.specs.Answers.{basis}
 use Rattle.key_switch_key.specs.declared.parameters.LweKeySwitchingParameters.{LweKeySwitchingParameters}
 use Rattle.key_switch_key.specs.Answers.{qIn, nIn, mIn}
-use Rattle.key_switch.specs.Answers.{batchRows, SwitchesBatch}
+use Rattle.key_switch.specs.Answers.{switchRows, batchRows, Switches, SwitchesBatch}
 use Rattle.key_switch.proofs.Passed.{batch-passed}
 use Rattle.theorems.proofs.Calls.{wrote, settled, words-fit, length-fit}
 use Rattle.theorems.proofs.Inputs.{inputs-accepted}
@@ -146,3 +148,22 @@ module _ (P : LweKeySwitchingParameters) (key X Y : List ℕ) where
               ∙ outputs-joined (length X / (nIn P + 1)) (batch-passed P key X (length overX) (first .0) .inputs)
               ∙ ap₂ _++_ (sym (first .1)) (sym (second .1)),
         )
+
+-- ---- one row
+
+module _ (P : LweKeySwitchingParameters) (key X : List ℕ) where
+  pub row-accepted : (room t : ℕ) → t < length X / (nIn P + 1) → refusal (batchRows P key X room) ≡ 0 → refusal (switchRows P key (rowOf (nIn P) X t) (mIn P + 1)) ≡ 0
+  row-accepted room t h e =
+      let n = nIn P in
+      let no = passed (batchRows P key X room) e in
+      let (foreign, words) = neither (wordsFail (qIn P) key) (wordsFail (qIn P) X) (no 14 tt) in
+      let x = batch-passed P key X room e in
+      inputs-accepted P key X _ _ e key (rowOf n X t) _ _ (no 9 tt) foreign (length-fit _ _ (part-length (n + 1) (length X / (n + 1)) X t (x .inputs) h)) (length-fit (mIn P + 1) _ refl)
+      (words-fit (qIn P) _ (part-below (qIn P) (n + 1) X t (x .words)))
+
+  pub row-alone : {over out alone y : List ℕ} {r : ℕ} → SwitchesBatch P key X over 0 out → (t : ℕ) → t < length X / (nIn P + 1)
+      → length alone ≡ mIn P + 1 → Switches P key (rowOf (nIn P) X t) alone r y → (r ≡ 0) × (y ≡ rowOf (mIn P) out t)
+  row-alone {over} w t h l one =
+      let whole = wrote (w .writes) in
+      let row = settled (one .writes) (rw l (row-accepted (length over) t h (whole .0))) in
+      (row .0, row .1 ∙ sym (ap (λ z. rowOf (mIn P) z t) (whole .1) ∙ batch-row (basis (P .basis)) (nIn P) (mIn P) key (length X / (nIn P + 1)) X t h))

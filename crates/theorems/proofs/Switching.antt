@@ -33,15 +33,15 @@ use Rattle.key_switch.proofs.Passed.{one-passed, batch-passed}
 use Rattle.theorems.specs.Switched.{takenAs, Switched}
 use Rattle.theorems.proofs.Calls.{wrote}
 
--- s so taken agrees with s modulo q
-pub taken-cong : (q : ℕ) (key : Key) (i : ℕ) → Cong q (secretOf key i) (takenAs q key i)
-taken-cong q (Words s) i = nearest-cong q (getD s i 0)
-taken-cong q (Signed s) i = cong-refl q (signed s i)
-
--- of a word it is the nearer to zero
+-- of w and w − q it is the nearer to zero
 pub taken-least : (q : ℕ) (s : List ℕ) (i : ℕ) → getD s i 0 ≤ q
     → (natAbs (takenAs q (Words s) i) ≤ getD s i 0) × (natAbs (takenAs q (Words s) i) ≤ natAbs (pos (getD s i 0) -ℤ pos q))
 taken-least q s i = nearest-least q (getD s i 0)
+
+-- and s so taken agrees with s modulo q
+pub taken-cong : (q : ℕ) (key : Key) (i : ℕ) → Cong q (secretOf key i) (takenAs q key i)
+taken-cong q (Words s) i = nearest-cong q (getD s i 0)
+taken-cong q (Signed s) i = cong-refl q (signed s i)
 
 -- a call whose parameters pass has an accepted basis
 pub basis-accepted : (P : LweKeySwitchingParameters) → Fits 32 (meant (P .basis .modulus)) → (more : List Check) → refusal (parameterRows P ++ more) ≡ 0
