@@ -31,8 +31,8 @@ use Rattle.primus_decompose.specs.declared.error.PreparedBasisAnswer.{PreparedB
 use Rattle.primus_decompose.specs.declared.error.PreparedBasisAnswer.the-variants as A
 use Rattle.primus_decompose.specs.Answers.{basis, rows, weightWord, preparedBy, preparedAnswer, WhereReady}
 use Rattle.gadget_constants.specs.Prepared.{Ready, basisIn}
-use Rattle.primus_lwe.specs.Answers.{replaced}
-use Rattle.primus_lwe.proofs.Laws.{modulo-stands}
+use Rattle.lwe_secret_key.specs.Runs.{replaced}
+use Rattle.lwe_secret_key.proofs.Laws.{modulo-stands}
 use Rattle.key_switch_key.specs.declared.parameters.LweKeySwitchingParameters.{LweKeySwitchingParameters}
 use Rattle.key_switch_key.specs.Answers.{nIn, mIn, levelsIn, generateRows, Generable}
 use Rattle.key_switch_key.proofs.Passed.{prepared-made, prepared-not, judged}

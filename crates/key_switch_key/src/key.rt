@@ -7,16 +7,16 @@ ghost use Rattle.scheme.specs.Lwe.{Words, Signed, words as wordsOf, signed as e
 ghost use Rattle.scheme.specs.Switch.{generated};
 ghost use Rattle.scheme.specs.Checks.{refusal, lengthFails, errorLimitFails, wordsFail, keyFails};
 ghost use Rattle.primus_decompose.specs.Answers.{basis};
-ghost use Rattle.primus_lwe.specs.Key.{keyOf};
+ghost use Rattle.lwe_secret_key.specs.Key.{keyOf};
 ghost use Rattle.key_switch_key.specs.Answers.{qIn, nIn, mIn, levelsIn, entryMissing, entryAnswer};
 ghost use Rattle.key_switch_key.specs.Answers.{generateRows, Generates, Generable};
 use crate::parameters::LweKeySwitchingParameters;
 use checks::Values;
+use lwe_secret_key::KeyForm;
+use lwe_secret_key::encrypt_row;
+use lwe_secret_key::key_residue;
 use primus_decompose::PreparedBasis;
 use primus_decompose::PreparedBasisAnswer;
-use primus_lwe::KeyForm;
-use primus_lwe::encrypt_row;
-use primus_lwe::key_residue;
 
 // Its words are lent.
 pub struct LweKeySwitchingKey {}
@@ -50,7 +50,7 @@ fn keys_differ(
 {
     let n = params.input_dimension;
     let m = params.output_dimension;
-    m.differs(output_key) | primus_lwe::key_differs(form, words, signed, n)
+    m.differs(output_key) | lwe_secret_key::key_differs(form, words, signed, n)
 }
 
 // 12: there are not n × L errors, or not m mask words for each. No product of three: it could overflow.
@@ -85,7 +85,8 @@ fn words_refused(
         || keyFails (qIn params) (keyOf form (now (words .entry)) (now (signed .entry)))) ⌝ }
 {
     let modulus = params.basis.modulus();
-    params.words_refused(output_key, masks) | primus_lwe::key_refused(form, modulus, words, signed)
+    params.words_refused(output_key, masks)
+        | lwe_secret_key::key_refused(form, modulus, words, signed)
 }
 
 fn generate_refusal(

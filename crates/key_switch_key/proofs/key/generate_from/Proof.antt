@@ -2,7 +2,7 @@ use mathlib.Core.Path.{sym, _∙_}
 use borrow.Author.Needs.{needs}
 use lib.ListN.{length}
 use Rattle.scheme.proofs.Order.{refused, done}
-use Rattle.primus_lwe.specs.Key.{keyOf}
+use Rattle.lwe_secret_key.specs.Key.{keyOf}
 use Rattle.key_switch_key.proofs.Entries.{Unrefused, generates-ready, generable}
 use Rattle.key_switch_key.proofs.key.generate_from.Statement.{statement}
 use Rattle.key_switch_key.proofs.key.generate_from.Tie as tie

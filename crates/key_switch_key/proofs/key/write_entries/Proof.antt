@@ -3,7 +3,7 @@ use native.Mathlib.Omega.{arith}
 use borrow.Author.Needs.{needs}
 use lib.ListN.{length}
 use Rattle.scheme.specs.Lwe.{words as wordsOf, secretOf}
-use Rattle.primus_lwe.specs.Key.{keyOf}
+use Rattle.lwe_secret_key.specs.Key.{keyOf}
 use Rattle.key_switch_key.proofs.Entries.{Entering, Entered, entering, levels-some, level-in, row-asks, entered-start, entered-on, entered-end}
 use Rattle.key_switch_key.proofs.key.write_entries.Statement.{statement}
 use Rattle.key_switch_key.proofs.key.write_entries.Tie as tie
