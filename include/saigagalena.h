@@ -69,7 +69,7 @@ static inline const char *saigagalena_refusal_text(uint32_t refusal)
         "the plaintext modulus is below 2 or above 65536",
         "the modulus is at most the plaintext modulus",
         "a key has the wrong length",
-        "a ciphertext has the wrong length, or there are more packed messages than n, or no such body",
+        "ciphertexts of the wrong length, too many packed messages, or no such body",
         "an output has the wrong length",
         "masks, errors or coefficients have the wrong length",
         "the error limit is above 1048576 or not below the modulus",

@@ -1,8 +1,8 @@
 #!/bin/sh
 # The C interface, tried: builds the static library with `rt staticlib saigagalena` (or takes the one that ARCHIVE
 # names), compiles the header as C11 and C++, the examples and the tests, each without and with sanitizers, and runs
-# them. No part of the gate: it wants a C compiler on x86-64 (CC, default cc; CXX, default c++, is left out where there
-# is none; so are the sanitizers, and rustc for the example in Rust).
+# them. No part of the gate: it wants nm and a C compiler on x86-64 (CC, default cc; CXX, default c++, is left out
+# where there is none; so are the sanitizers, and rustc for the example in Rust).
 set -eu
 # shellcheck source=scripts/archive.sh
 . "$(dirname "$0")/archive.sh"
@@ -24,6 +24,14 @@ else
     echo "c_test: the header is C11; no C++ compiler"
 fi
 
+# Every export is declared for C and for Rust, and the model has it; the version has no operands, so it stands in cases.c.
+nm "$archive" 2>/dev/null | awk '$2 == "T" && $3 ~ /^saigagalena_/ { print $3 }' | sort >"$room/exports"
+grep -o 'saigagalena_[a-z_]*(' include/saigagalena.h | tr -d '(' | grep -v refusal_text | sort -u >"$room/in_c"
+sed -n 's/^    pub fn \(saigagalena_[a-z_]*\)(.*/\1/p' include/saigagalena.rs | sort >"$room/in_rust"
+{ sed -n 's/^    {"\([a-z_]*\)",.*/saigagalena_\1/p' tests/c/model.c; echo saigagalena_version; } | sort >"$room/in_model"
+for list in in_c in_rust in_model; do diff "$room/exports" "$room/$list"; done
+echo "c_test: $(wc -l <"$room/exports" | tr -d ' ') exports, each declared for C and Rust, and in the model"
+
 # Builds everything in a directory of its own, with the flags given, and runs it.
 try() {
     dir="$room/$1"
@@ -34,12 +42,14 @@ try() {
         "$cc" -std=c11 $strict "$@" examples/decode.c "$archive" -o "$dir/decode"
         "$cc" -std=c11 $strict "$@" examples/pool.c "$archive" -o "$dir/pool"
         "$cc" -std=c11 $strict "$@" tests/c/cases.c "$archive" -o "$dir/cases"
+        "$cc" -std=c11 $strict "$@" tests/c/tags.c "$archive" -o "$dir/tags"
         "$cc" -std=c11 $strict "$@" tests/c/refusals.c $harness $model "$archive" -o "$dir/refusals"
     }
     "$dir/decode"
     "$dir/pool" >"$dir/pool.out"
     diff examples/pool.out "$dir/pool.out"
     "$dir/cases"
+    "$dir/tags"
     "$dir/refusals"
 }
 
