@@ -21,7 +21,7 @@ pub fn outcome(answer: LweAnswer) -> LweOutcome
         LweAnswer::Written(tag) => LweOutcome { refusal: 0, tag },
         LweAnswer::Refused(refusal) => LweOutcome {
             refusal,
-            tag: lwe_tag::none(),
+            tag: LweTag::none(),
         },
     }
 }

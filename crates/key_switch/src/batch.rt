@@ -4,6 +4,7 @@ use crate::switch_judged;
 use crate::switch_refusal;
 use key_switch_key::LweKeySwitchingParameters;
 use lwe_tag::LweAnswer;
+use lwe_tag::LweTag;
 
 // Each row of n + 1 words is switched to its own row of m + 1, none with a tally. Refuses by 1 to 6, 9, 10, 11, 14.
 pub fn key_switch_batch_to(
@@ -25,5 +26,5 @@ pub fn key_switch_batch_to(
         return LweAnswer::Refused(r);
     }
     switch_judged(out, input, key, count, params);
-    LweAnswer::Written(lwe_tag::none())
+    LweAnswer::Written(LweTag::none())
 }

@@ -16,6 +16,7 @@ pub use key_switch_key::LweKeySwitchingKey;
 pub use key_switch_key::LweKeySwitchingParameters;
 pub use key_switch_key::LweKeySwitchingParametersAnswer;
 use lwe_tag::LweAnswer;
+use lwe_tag::LweTag;
 use primus_decompose::PreparedBasisAnswer;
 
 // The first refusal of a switch, or 0, where 10 and 11 are judged by the caller.
@@ -85,5 +86,5 @@ pub fn key_switch_to(
         return LweAnswer::Refused(r);
     }
     switch_judged(out, input, key, 1, params);
-    LweAnswer::Written(lwe_tag::none())
+    LweAnswer::Written(LweTag::none())
 }

@@ -14,6 +14,7 @@ ghost use Rattle.primus_lwe_batch.specs.Answers.{batchRows, TakesPhases,
 use crate::sizes;
 use checks::Values;
 use lwe_tag::LweAnswer;
+use lwe_tag::LweTag;
 use primus_encoding::PlaintextEmbedding;
 use primus_encoding::RoundedCodec;
 use primus_encoding::encode_or_zero;
@@ -112,7 +113,7 @@ pub fn encrypt_message_batch_to(
         return LweAnswer::Refused(r);
     }
     write_messages(out, params, embedding, secret, masks, errors, messages);
-    LweAnswer::Written(lwe_tag::fresh(params.error_limit))
+    LweAnswer::Written(LweTag::with_tally(params.error_limit as u64))
 }
 
 // The phase of row i.

@@ -7,6 +7,7 @@ use crate::packed;
 use crate::packed::Packing;
 use checks::Values;
 use lwe_tag::LweAnswer;
+use lwe_tag::LweTag;
 use primus_encoding::PlaintextEmbedding;
 use primus_encoding::RoundedCodec;
 use primus_lwe::LweDecryptionParameters;
@@ -62,7 +63,7 @@ pub fn encrypt_message_packed(
     let modulus = params.modulus;
     let packing = Packing::Messages(params.plaintext_modulus, embedding);
     packed::write_packed(out, packing, mask, secret, errors, messages, modulus);
-    LweAnswer::Written(lwe_tag::none())
+    LweAnswer::Written(LweTag::none())
 }
 
 fn packed_decrypt_refusal(

@@ -13,6 +13,7 @@ ghost use Rattle.primus_lwe_packed.specs.Answers.{packedRows, EncryptsPa
 ghost use Rattle.primus_lwe_packed.specs.Answers.{packedPhaseRows, TakesPackedPhases};
 use checks::Values;
 use lwe_tag::LweAnswer;
+use lwe_tag::LweTag;
 use primus_encoding::PlaintextEmbedding;
 use primus_encoding::encode_or_zero;
 use primus_lattice::LweDimension;
@@ -250,7 +251,7 @@ pub fn encrypt_encoded_packed(
         plaintexts,
         modulus,
     );
-    LweAnswer::Written(lwe_tag::none())
+    LweAnswer::Written(LweTag::none())
 }
 
 // 10: fewer than n words, or more than n bodies.

@@ -13,6 +13,7 @@ ghost use Rattle.primus_lwe_public_key.specs.Answers.{publicMessageRows,
 use crate::rows;
 use checks::Values;
 use lwe_tag::LweAnswer;
+use lwe_tag::LweTag;
 use primus_encoding::PlaintextEmbedding;
 use primus_encoding::encode_or_zero;
 use primus_lattice::LweDimension;
@@ -217,7 +218,7 @@ impl LwePublicKey {
         }
         let modulus = params.modulus;
         rows::write_public(out, key, errors, coefficients, plaintext, modulus);
-        LweAnswer::Written(lwe_tag::none())
+        LweAnswer::Written(LweTag::none())
     }
 
     // An encryption of encode(m); no tally. Refuses by 2, 6, 7, 8, 9, 11, 12, 13, 14, 15, 16.
@@ -241,6 +242,6 @@ impl LwePublicKey {
         let t = params.plaintext_modulus;
         let plaintext = encode_or_zero(t, modulus, message, embedding);
         rows::write_public(out, key, errors, coefficients, plaintext, modulus);
-        LweAnswer::Written(lwe_tag::none())
+        LweAnswer::Written(LweTag::none())
     }
 }

@@ -60,7 +60,7 @@ pub extern "C" fn saigagalena_extract(
 pub extern "C" fn saigagalena_saved_tag(tally: u64) -> LweTag
     ensures { λ r. ⌜ r ≡ record { tally = tally } ⌝ }
 {
-    LweTag::saved(tally)
+    LweTag::with_tally(tally)
 }
 
 // 1 where 2t × tally + t < q, else 0; or 2^32 plus the first of 2, 7, 8, 17 that applies.

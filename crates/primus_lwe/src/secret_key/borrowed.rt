@@ -18,6 +18,7 @@ use crate::secret_key::form::KeyForm;
 use checks::Values;
 use checks::WordAnswer;
 use lwe_tag::LweAnswer;
+use lwe_tag::LweTag;
 use primus_lattice::LweDimension;
 use primus_reduce::Modulus;
 
@@ -166,7 +167,7 @@ fn encrypt_encoded(
         plaintext,
         modulus,
     );
-    LweAnswer::Written(lwe_tag::fresh(params.error_limit))
+    LweAnswer::Written(LweTag::with_tally(params.error_limit as u64))
 }
 
 // b = ⟨a, s⟩ + e + p modulo q; out holds (a, b), with tally E. Refuses by 2, 6, 9, 11, 12, 13, 14, 15.

@@ -12,6 +12,7 @@ use crate::secret_key::form::KeyForm;
 use checks::Values;
 use checks::WordAnswer;
 use lwe_tag::LweAnswer;
+use lwe_tag::LweTag;
 use primus_encoding::PlaintextEmbedding;
 use primus_encoding::decode_or_zero;
 use primus_encoding::encode_or_zero;
@@ -87,7 +88,7 @@ fn encrypt_message(
         plaintext,
         modulus,
     );
-    LweAnswer::Written(lwe_tag::fresh(params.error_limit))
+    LweAnswer::Written(LweTag::with_tally(params.error_limit as u64))
 }
 
 // An encryption of encode(m), with tally E. Refuses by 2, 6, 7, 8, 9, 11, 12, 13, 14, 15, 16.
