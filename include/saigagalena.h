@@ -18,7 +18,8 @@
  * Every length and every number is judged, and before a slice is read: a call that is refused by 1 to 13 has not touched one.
  * What no number can say is the caller's to see to: each pointer is aligned for its elements and good for its length, a buffer
  * that is written overlaps no other, and no other thread writes a buffer during a call.
- * The library is for x86-64. Nothing is allocated or kept; the stack used stays below 256 KiB; calls from several threads are fine.
+ * The library is for x86-64 Linux, and passes structs as its C does. Nothing is allocated or kept; the stack used stays below
+ * 256 KiB; calls from several threads are fine.
  * Running time depends on secrets in general: no promise is made about it.
  */
 #ifndef SAIGAGALENA_H

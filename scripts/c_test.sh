@@ -12,13 +12,16 @@ strict="-Wall -Wextra -Wpedantic -Werror -Iinclude"
 harness="tests/c/compare.c tests/c/place.c tests/c/draw.c tests/c/damage.c tests/c/library.c"
 model="tests/c/model.c tests/c/lengths.c tests/c/results.c"
 
-echo '#include "saigagalena.h"' >"$room/header.c"
+# The header by itself, and a tag that goes in and comes out.
+printf '#include "saigagalena.h"\nint main(void) { return saigagalena_saved_tag(7).tally != 7; }\n' >"$room/header.c"
 cp "$room/header.c" "$room/header.cpp"
 # shellcheck disable=SC2086 # the flags are several words
-"$cc" -std=c11 $strict -fsyntax-only "$room/header.c"
+"$cc" -std=c11 $strict "$room/header.c" "$archive" -o "$room/header_c"
+"$room/header_c"
 if command -v "$cxx" >/dev/null; then
     # shellcheck disable=SC2086
-    "$cxx" $strict -fsyntax-only "$room/header.cpp"
+    "$cxx" $strict "$room/header.cpp" "$archive" -o "$room/header_cpp"
+    "$room/header_cpp"
     echo "c_test: the header is C11 and C++"
 else
     echo "c_test: the header is C11; no C++ compiler"
