@@ -12,7 +12,7 @@ ghost use Rattle.key_switch_key.specs.Answers.{qIn, nIn, mIn, levelsIn, 
 ghost use Rattle.key_switch_key.specs.Answers.{generateRows, Generates, Generable};
 use crate::parameters::LweKeySwitchingParameters;
 use checks::Values;
-use primus_decompose::PreparedBasis;
+use gadget_constants::PreparedBasis;
 use primus_decompose::PreparedBasisAnswer;
 use primus_lwe::KeyForm;
 use primus_lwe::encrypt_row;
