@@ -13,9 +13,7 @@ use Rattle.scheme.specs.Checks.{Check, row, refusal, Writes, dimensionFails, le
 use Rattle.scheme.specs.Checks.{errorLimitFails, wordsFail, keyFails, errorsFail}
 use Rattle.primus_reduce.specs.Ring.{sizeOf}
 use Rattle.primus_reduce.specs.declared.modulus.Modulus.{Modulus}
-use Rattle.primus_decompose.specs.Answers.{basis, rows, basisWith, preparedBy}
-use Rattle.gadget_constants.specs.Prepared.{Ready}
-use Rattle.gadget_constants.specs.declared.prepared.PreparedBasis.{PreparedBasis}
+use Rattle.primus_decompose.specs.Answers.{basis, rows, basisWith}
 use Rattle.key_switch_key.specs.declared.parameters.LweKeySwitchingParameters.{LweKeySwitchingParameters}
 use Rattle.key_switch_key.specs.declared.parameters.LweKeySwitchingParametersAnswer.{
   LweKeySwitchingParametersAnswer,
@@ -97,11 +95,9 @@ pub record Generates (P : LweKeySwitchingParameters) (E : ℕ) (key : Key) (s′
       Writes (generateRows P E key s′ masks errors (length before))
       (generated (basis (P .basis)) (nIn P) (mIn P) (secretOf key) (words s′) (signed errors) masks) before r after
 
--- what writing the entries asks, with the basis prepared
-pub record Generable (P : LweKeySwitchingParameters) (p : PreparedBasis) (masks : List ℕ) (errors : List ℤ) (room : ℕ)
-    : Type 0 where
-  pub ready : Ready p
-  pub made : p ≡ preparedBy (P .basis)
+-- what writing the entries asks
+pub record Generable (P : LweKeySwitchingParameters) (masks : List ℕ) (errors : List ℤ) (room : ℕ) : Type 0 where
+  pub accepted : refusal (rows (P .basis)) ≡ 0
   pub fits : room ≡ keyWords P
   pub masked : length masks ≡ nIn P * levelsIn P * mIn P
   pub errored : length errors ≡ nIn P * levelsIn P

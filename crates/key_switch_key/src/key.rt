@@ -12,8 +12,6 @@ ghost use Rattle.key_switch_key.specs.Answers.{qIn, nIn, mIn, levelsIn, 
 ghost use Rattle.key_switch_key.specs.Answers.{generateRows, Generates, Generable};
 use crate::parameters::LweKeySwitchingParameters;
 use checks::Values;
-use gadget_constants::PreparedBasis;
-use primus_decompose::PreparedBasisAnswer;
 use primus_lwe::KeyForm;
 use primus_lwe::encrypt_row;
 use primus_lwe::key_residue;
@@ -128,13 +126,13 @@ fn write_entries(
     output_key: &[u32],
     masks: &[u32],
     errors: &[i32],
-    p: PreparedBasis,
 )
-    requires { ⌜ Generable params p (now masks) (now errors) (length (now out)) ⌝ }
+    requires { ⌜ Generable params (now masks) (now errors) (length (now out)) ⌝ }
     ensures { λ _. ⌜ now (out .exit) ≡ generated (basis (params .basis)) (nIn params) (mIn params)
         (secretOf (keyOf form (now (words .entry)) (now (signed .entry))))
         (wordsOf (now («output_key» .entry))) (errorsOf (now (errors .entry))) (now (masks .entry)) ⌝ }
 {
+    let p = params.prepared();
     let modulus = p.modulus;
     let m = params.output_dimension.get();
     let weights = params.basis.scalars();
@@ -160,7 +158,7 @@ fn write_entries(
     }
 }
 
-// A key from an input key of either form. The basis, which has been judged, does not refuse.
+// A key from an input key of either form.
 fn generate_from(
     params: LweKeySwitchingParameters,
     error_limit: u32,
@@ -190,23 +188,7 @@ fn generate_from(
     if r != 0 {
         return r;
     }
-    let prepared = params.basis.prepare();
-    match prepared {
-        PreparedBasisAnswer::Ready(p) => {
-            write_entries(
-                out,
-                params,
-                form,
-                words,
-                signed,
-                output_key,
-                masks,
-                errors,
-                p,
-            );
-        }
-        PreparedBasisAnswer::Refused(_) => {}
-    }
+    write_entries(out, params, form, words, signed, output_key, masks, errors);
     0
 }
 
