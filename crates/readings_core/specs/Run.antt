@@ -91,7 +91,7 @@ unfoldable pub linesFed : Reader → List ℕ → List Line
 linesFed m [] = due (finished m)
 linesFed m (x ∷ xs) = due (fed m x .turn) ++ linesFed (fed m x) xs
 
--- ---- what a run promises: no contract can say which bytes a read gives
+-- ---- what a run promises: no contract can say which bytes a read gives, nor that there were no more
 
 -- m is what some bytes make of the reader before
 pub record Read (before m : Reader) : Type 0 where

@@ -1,4 +1,4 @@
-// Bytes from one file descriptor, lines to another. That the lines are these numbers as text is tested, not proved.
+// Bytes from one file descriptor, lines to another. What is read, and that each answer is printed as text, is tested, not proved.
 ghost use mathlib.Core.Path.{_≡_};
 ghost use lib.IntN.{natAbs};
 ghost use Rattle.readings_core.specs.Run.{fedAll, finished, Read, Ran};
