@@ -51,11 +51,18 @@ fn adjust(a: u32, threshold: u32, add: u32) -> u32
 }
 
 impl PreparedBasis {
+    // The word as its walk takes it: lifted from T on.
+    fn adjusted(self, value: u32) -> u32
+        ensures { λ r. ⌜ r ≡ adjustBy (self .threshold) (self .add) value ⌝ }
+    {
+        adjust(value, self.threshold, self.add)
+    }
+
     // The adjusted word, and the carry into the lowest level.
     pub fn init_value_carry(self, value: u32) -> ValueCarry
         ensures { λ r. ⌜ r ≡ initFrom self value ⌝ }
     {
-        let adjusted = adjust(value, self.threshold, self.add);
+        let adjusted = self.adjusted(value);
         ValueCarry {
             value: adjusted,
             carry: carry_in(adjusted, self.drop_bits),

@@ -1,2 +1,5 @@
 pub mod Laws
+pub mod Runs
+pub mod Shown
 pub mod Signs
+pub mod Whole

@@ -1,8 +1,9 @@
 // One command: what it answers, and what it leaves for the next.
 ghost use mathlib.Core.Path.{_≡_};
 ghost use Prim.Native.Nat.{_≤_};
-ghost use Rattle.readings_core.specs.Program.{operands, basisLine, go, basisTurn, wordReply, wordTurn, over};
-ghost use Rattle.readings_core.specs.Program.{basisCommand, wordCommand, turnOf};
+ghost use Rattle.readings_core.specs.Program.{operands, basisLine, go, basisTurn, wordTurn, over};
+ghost use Rattle.readings_core.specs.Program.{readWord, basisCommand, wordCommand, turnOf};
+use crate::digits;
 use checks::WordAnswer;
 use primus_decompose::ApproxSignedBasis;
 use primus_decompose::ReadingAnswer;
@@ -25,22 +26,25 @@ pub struct BasisReply {
     pub threshold: u32,
 }
 
-// `word` a reading ε, before its digits
+// `word` a reading ε, and the number of its digits
 pub struct WordReply {
     pub word: u32,
     pub reading: i64,
     pub error: i64,
+    pub level_count: usize,
 }
 
 pub enum Reply {
+    Nothing,
     Basis(BasisReply),
     Word(WordReply),
     Refused(u32),
 }
 
-// An answer, the session after it, and whether the program goes on.
+// An answer, of a word its digits besides, lowest first; the session after it, and whether the program goes on.
 pub struct Turn {
     pub reply: Reply,
+    pub digits: [i64; 16],
     pub session: Session,
     pub more: bool,
 }
@@ -81,6 +85,7 @@ fn next(reply: Reply, session: Session) -> Turn
 {
     Turn {
         reply,
+        digits: [0; 16],
         session,
         more: true,
     }
@@ -96,16 +101,24 @@ fn on_basis(session: Session, b: ApproxSignedBasis) -> Turn
     }
 }
 
-fn word_reply(b: ApproxSignedBasis, word: u32) -> Reply
-    ensures { λ r. ⌜ r ≡ wordReply b word ⌝ }
+// A word under the basis that was accepted last.
+fn read_word(b: ApproxSignedBasis, word: u32) -> Turn
+    ensures { λ r. ⌜ r ≡ readWord b word ⌝ }
 {
+    let levels = b.level_count();
     match b.reading(word) {
-        ReadingAnswer::Read(r) => Reply::Word(WordReply {
-            word,
-            reading: r.reading,
-            error: r.error,
-        }),
-        ReadingAnswer::Refused(n) => Reply::Refused(n),
+        ReadingAnswer::Read(r) => Turn {
+            reply: Reply::Word(WordReply {
+                word,
+                reading: r.reading,
+                error: r.error,
+                level_count: levels.get(),
+            }),
+            digits: digits::of_word(b, word),
+            session: Session::Ready(b),
+            more: true,
+        },
+        ReadingAnswer::Refused(n) => next(Reply::Refused(n), Session::Ready(b)),
     }
 }
 
@@ -115,16 +128,17 @@ fn on_word(session: Session, word: u32) -> Turn
 {
     match session {
         Session::Empty => next(Reply::Refused(18), Session::Empty),
-        Session::Ready(b) => next(word_reply(b, word), Session::Ready(b)),
+        Session::Ready(b) => read_word(b, word),
     }
 }
 
 // 19, and the end.
-fn end(session: Session) -> Turn
+pub(crate) fn end(session: Session) -> Turn
     ensures { λ r. ⌜ r ≡ over session ⌝ }
 {
     Turn {
         reply: Reply::Refused(19),
+        digits: [0; 16],
         session,
         more: false,
     }

@@ -1,6 +1,8 @@
 // The program of document 01: commands of one byte, operands little-endian, one line of answer each.
 mod command;
+mod digits;
 mod print;
+mod reader;
 
 pub use command::BasisReply;
 pub use command::Reply;
@@ -11,3 +13,4 @@ pub use command::answer;
 pub use command::operand_count;
 pub use print::magnitude;
 pub use print::run;
+pub use reader::Reader;

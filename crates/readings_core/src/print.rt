@@ -1,15 +1,12 @@
-// Commands from one file descriptor, lines to another. What is read and written is tested, not proved.
+// Bytes from one file descriptor, lines to another. What is read, and that each answer is printed as text, is tested, not proved.
 ghost use mathlib.Core.Path.{_≡_};
 ghost use lib.IntN.{natAbs};
-use crate::command;
+ghost use Rattle.readings_core.specs.Run.{fedAll, finished, Read, Ran};
 use crate::command::BasisReply;
 use crate::command::Reply;
-use crate::command::Session;
 use crate::command::Turn;
 use crate::command::WordReply;
-use primus_decompose::ApproxSignedBasis;
-use primus_decompose::DecomposerAnswer;
-use primus_decompose::SignedDecomposer;
+use crate::reader::Reader;
 
 fn print_number(fd: i32, n: u64) {
     io::write_all(fd, b" ");
@@ -47,41 +44,31 @@ fn print_basis(fd: i32, r: BasisReply) {
     print_number(fd, r.threshold as u64);
 }
 
-fn print_levels(fd: i32, b: ApproxSignedBasis, start: SignedDecomposer) {
-    let levels = b.level_count();
-    let n = levels.get();
-    let mut d = start;
+fn print_digits(fd: i32, digits: [i64; 16], count: usize) {
     let mut j = 0;
-    while j < n {
-        let s = d.step();
-        print_signed(fd, b.signed_digit(s.digit));
-        d = s.next;
+    while j < 16 {
+        if j < count {
+            print_signed(fd, digits[j]);
+        }
         j += 1;
     }
 }
 
-fn print_digits(fd: i32, b: ApproxSignedBasis, word: u32) {
-    if let DecomposerAnswer::Ready(d) = b.decomposer(word) {
-        print_levels(fd, b, d);
-    }
-}
-
-fn print_word(fd: i32, session: Session, r: WordReply) {
+fn print_word(fd: i32, r: WordReply, digits: [i64; 16]) {
     io::write_all(fd, b"word");
     print_number(fd, r.word as u64);
     print_signed(fd, r.reading);
     print_signed(fd, r.error);
-    if let Session::Ready(b) = session {
-        print_digits(fd, b, r.word);
-    }
+    print_digits(fd, digits, r.level_count);
 }
 
 fn print_turn(fd: i32, t: Turn) {
-    let session = t.session;
+    let digits = t.digits;
     let reply = t.reply;
     match reply {
+        Reply::Nothing => return,
         Reply::Basis(r) => print_basis(fd, r),
-        Reply::Word(r) => print_word(fd, session, r),
+        Reply::Word(r) => print_word(fd, r, digits),
         Reply::Refused(n) => print_refusal(fd, n),
     }
     io::write_all(fd, b"\n");
@@ -92,49 +79,60 @@ fn print_refusal(fd: i32, n: u32) {
     print_number(fd, n as u64);
 }
 
-// The answer to a basis command, whose operands are still to be read.
-fn read_basis(input: i32, session: Session) -> Turn {
-    let mut operands = [0u8; 6];
-    let n = io::read_full(input, &mut operands);
-    command::answer(session, 1, &operands[..n])
-}
-
-// The answer to a word command, whose operand is still to be read.
-fn read_word(input: i32, session: Session) -> Turn {
-    let mut operands = [0u8; 4];
-    let n = io::read_full(input, &mut operands);
-    command::answer(session, 2, &operands[..n])
-}
-
-// One command, read, answered and printed; or the end of the input.
-fn one(input: i32, output: i32, session: Session) -> Turn {
-    let mut byte = [0u8; 1];
-    if io::read_full(input, &mut byte) == 0 {
-        return Turn {
-            reply: Reply::Refused(0),
-            session,
-            more: false,
-        };
+// Feeds the bytes that were read, and prints each line as it falls due.
+fn feed_all(before: Reader, bytes: &[u8], output: i32) -> Reader
+    ensures { λ r. ⌜ r ≡ fedAll before (now (bytes .entry)) ⌝ }
+{
+    let mut m = before;
+    let mut i = 0;
+    while i < bytes.len() {
+        m = m.feed(bytes[i]);
+        print_turn(output, m.turn);
+        i += 1;
     }
-    let t = match byte[0] {
-        1 => read_basis(input, session),
-        2 => read_word(input, session),
-        c => command::answer(session, c, b""),
-    };
+    m
+}
+
+// A reader after one read, and whether the input has ended.
+struct Fed {
+    reader: Reader,
+    ended: bool,
+}
+
+fn feed_some(before: Reader, input: i32, output: i32) -> Fed
+    ensures { λ r. ⌜ Read before (r .reader) ⌝ }
+{
+    let mut bytes = io::buffer();
+    let got = libc::read(input, &mut bytes);
+    let n = io::count(got, &bytes);
+    Fed {
+        reader: feed_all(before, &bytes[..n], output),
+        ended: n == 0,
+    }
+}
+
+fn last(m: Reader, output: i32) -> Turn
+    ensures { λ r. ⌜ r ≡ finished m ⌝ }
+{
+    let t = m.finish();
     print_turn(output, t);
     t
 }
 
-// Commands until the input ends or 19 ends it.
-pub fn run(input: i32, output: i32) {
-    let mut session = Session::Empty;
-    let mut turns = u64::MAX;
-    while turns > 0 {
-        let t = one(input, output, session);
-        if !t.more {
-            return;
+// Commands until the input ends or 19 ends it. The answer is the last one, after the bytes that were read.
+pub fn run(input: i32, output: i32) -> Turn
+    ensures { λ r. ⌜ Ran r ⌝ }
+{
+    let mut m = Reader::new();
+    let mut reads = u64::MAX;
+    while reads > 0 {
+        let f = feed_some(m, input, output);
+        m = f.reader;
+        let turn = m.turn;
+        if f.ended || !turn.more {
+            return last(m, output);
         }
-        session = t.session;
-        turns -= 1;
+        reads -= 1;
     }
+    last(m, output)
 }

@@ -8,8 +8,8 @@ returns : tie.Need-returns
 returns c =
     let a = c .before in
     let d = a .before .args .self .«drop_bits» in
-    ap₂ (λ x k. record { value = x; carry = k }) (a .adjust .ensures)
-    (c .carry-in .ensures ∙ ap (λ v. eqb (carryIn d v) 1) (a .adjust .ensures))
+    ap₂ (λ x k. record { value = x; carry = k }) (a .adjusted .ensures)
+    (c .carry-in .ensures ∙ ap (λ v. eqb (carryIn d v) 1) (a .adjusted .ensures))
 
 pub init-value-carry-spec : {M : Type 1} → statement M
 init-value-carry-spec = tie.close (tie.spec (λ c κs. tt) (λ c κs. tt) returns)
