@@ -75,8 +75,9 @@ pub(crate) fn open(sent: &[u32], words: usize, modulus: Modulus) {
     let mut secret = [0u32; 16368];
     let l = saved_files::load(b"group_secret", &mut secret);
     let h = l.head;
+    let stored = l.stored;
     if l.refusal != 0 || is_other(h, modulus) {
-        reasons::told_file(b"group_secret", 19, l.refusal == 0);
+        reasons::told_file(b"group_secret", 19, stored);
         return;
     }
     let r = with_secret(h, &secret, sent, words);

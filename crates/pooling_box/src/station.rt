@@ -14,6 +14,8 @@ use primus_lattice::MarkAnswer;
 use primus_lattice::Tally;
 use primus_reduce::Modulus;
 use saved::Head;
+use saved_files::ROOM;
+use saved_files::Stored;
 
 fn digit(number: u32) -> u8 {
     (48 + number % 10) as u8
@@ -27,9 +29,10 @@ fn add_shop(
     total: &mut [u32],
     tallies: &mut [u64],
 ) -> u32 {
-    let len = programs::read(name, bytes);
+    let f = programs::read_file(name, bytes);
+    let len = f.len;
     let r = add_saved(params, &bytes[0..len], total, tallies);
-    reasons::told_file(name, r, saved::file_refusal(&bytes[0..len]) == 0);
+    reasons::told_file(name, r, saved_files::stored_as(f.opened, &bytes[0..len]));
     if r == 0 {
         return 1;
     }
@@ -83,7 +86,7 @@ fn print_marks(tallies: [u64; 4], modulus: Modulus) {
 
 // Adds the rows and prints the marks; how many rows were added.
 fn collect(pool: PoolParameters, modulus: Modulus, total: &mut [u32]) -> u32 {
-    let mut bytes = [0u8; 65536];
+    let mut bytes = [0u8; ROOM];
     let mut tallies = [0u64; 4];
     programs::write(b"the box adds the shops' rows of four encrypted counts:\n");
     let rows = add_shops(pool, &mut bytes, total, &mut tallies);
@@ -184,7 +187,7 @@ fn with_file(h: Head, key: &[u32], sent: &mut [u32]) -> usize {
             sent,
         ),
         LweKeySwitchingParametersAnswer::Refused(r) => {
-            reasons::told_file(b"switching_key", r, true);
+            reasons::told_file(b"switching_key", r, Stored::Whole);
             0
         }
     }
@@ -196,8 +199,9 @@ pub(crate) fn run(sent: &mut [u32]) -> Sent {
     let l = saved_files::load(b"switching_key", &mut key);
     let h = l.head;
     let modulus = h.modulus;
+    let stored = l.stored;
     if l.refusal != 0 {
-        reasons::told_file(b"switching_key", l.refusal, false);
+        reasons::told_file(b"switching_key", l.refusal, stored);
         return Sent { words: 0, modulus };
     }
     Sent {
