@@ -1,15 +1,14 @@
-// LWE ciphertexts over words of 32 bits: the dimension, the tag beside the words, sums, and packed ciphertexts.
+// LWE ciphertexts over words of 32 bits: the dimension, sums, samples of packed ciphertexts, and the tag beside the words.
 mod dimension;
 mod multiple_message;
 mod single_message;
-mod tag;
 
 pub use dimension::LweDimension;
 pub use dimension::LweDimensionAnswer;
+pub use lwe_tag::LweAnswer;
+pub use lwe_tag::LweTag;
+pub use lwe_tag::MarkAnswer;
+pub use lwe_tag::Tally;
 pub use multiple_message::extract_lwe_at;
 pub use multiple_message::packed_refused;
 pub use single_message::add_assign;
-pub use tag::LweTag;
-pub use tag::LweTagAnswer;
-pub use tag::MarkAnswer;
-pub use tag::Tally;

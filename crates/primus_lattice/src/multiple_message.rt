@@ -11,6 +11,7 @@ ghost use Rattle.primus_lattice.specs.Answers.{bodyFails, extractRows, E
 use crate::dimension::LweDimension;
 use checks::Sizes;
 use checks::Values;
+use lwe_tag::LweAnswer;
 use primus_reduce::Modulus;
 
 // 10: fewer than n words, or more than n bodies. No sum: it could overflow.
@@ -84,20 +85,20 @@ fn write_extracted(out: &mut [u32], input: &[u32], n: usize, index: usize, modul
     }
 }
 
-// The sample of body `index`, as a ciphertext of one message. Refuses by 2, 6, 10, 11, 14.
+// The sample of body `index`, as a ciphertext of one message, without a tally. Refuses by 2, 6, 10, 11, 14.
 pub fn extract_lwe_at(
     modulus: Modulus,
     dimension: LweDimension,
     input: &[u32],
     index: usize,
     out: &mut [u32],
-) -> u32
+) -> LweAnswer
     ensures { λ r. ⌜ Extracts modulus dimension (now (input .entry)) index (now (out .entry)) r (now (out .exit)) ⌝ }
 {
     let r = extract_refusal(modulus, dimension, input, index, out.len());
     if r != 0 {
-        return r;
+        return LweAnswer::Refused(r);
     }
     write_extracted(out, input, dimension.get(), index, modulus);
-    0
+    LweAnswer::Written(lwe_tag::none())
 }

@@ -3,7 +3,7 @@ use native.Mathlib.Omega.{arith}
 use borrow.Author.Needs.{needs}
 use lib.ListN.{length}
 use Rattle.scheme.specs.Lwe.{extracted}
-use Rattle.scheme.proofs.Order.{refused, done}
+use Rattle.lwe_tag.proofs.Writes.{refused, done}
 use Rattle.primus_reduce.specs.Ring.{sizeOf}
 use Rattle.primus_lattice.proofs.Laws.{extractable}
 use Rattle.primus_lattice.proofs.multiple_message.extract_lwe_at.Statement.{statement}
@@ -22,17 +22,17 @@ write-extracted-requires c κs =
 
 returns-2 : tie.Need-returns-2
 returns-2 c =
-    let w = c .before .before in
+    let w = c .before .before .before in
     let g = w .before in
     let e = g .before .before in
     let a = e .before .before .before .before .args in
     record {
       writes =
-          done (sym (e .before .extract-refusal .ensures) ∙ e .if1 .left)
+          done (sym (e .before .extract-refusal .ensures) ∙ e .if1 .left) (c .none .ensures)
           (w .write-extracted .ensures ∙ ap (λ n. extracted (sizeOf (a .modulus)) n (a .input .now) (a .index)) (g .get .ensures));
     }
 
 pub extract-lwe-at-spec : {M : Type 1} → statement M
 extract-lwe-at-spec =
     tie.close
-    (tie.spec (λ c κs. tt) returns (λ c κs. tt) write-extracted-requires (λ c. search needs) returns-2)
+    (tie.spec (λ c κs. tt) returns (λ c κs. tt) write-extracted-requires (λ c κs. tt) (λ c. search needs) returns-2)

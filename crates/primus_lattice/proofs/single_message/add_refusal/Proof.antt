@@ -7,11 +7,15 @@ use Rattle.primus_lattice.proofs.single_message.add_refusal.Statement.{
 use Rattle.primus_lattice.proofs.single_message.add_refusal.Tie as tie
 
 abbrev rows : tie.After-first → List Check
-rows c = let a = c .before .before .before .before .before .before .args in addRows (a .modulus) (a .dimension .0) (a .x .now) (a .y .now)
+rows c =
+    let a = c .before .before .before .before .before .before .args in
+    addRows (a .modulus) (a .dimension .0) (a .x .now) (a .x-tag) (a .y .now) (a .y-tag)
 
 sized : (c : tie.After-first) → Sized (rows c) (c .first .result)
 sized c = c .first .ensures (rows c) (record { basis = search needs; parameters = search needs; lengths = search needs })
 
 pub add-refusal-spec : {M : Type 1} → statement M
-add-refusal-spec = tie.close (tie.spec (λ c κs. tt) (λ c κs. tt) (λ c κs. tt) (λ c κs. tt) (λ c. early _ (sized (c .before)) (c .if1 .taken)) (λ c κs. tt) (λ c κs. tt)
-    (λ c. let e = c .before .before in late _ (sized (e .before)) (e .if1 .left) (c .first2 .ensures (rows (e .before)) (search needs))))
+add-refusal-spec =
+    tie.close
+    (tie.spec (λ c κs. tt) (λ c κs. tt) (λ c κs. tt) (λ c κs. tt) (λ c. early _ (sized (c .before)) (c .if1 .taken)) (λ c κs. tt) (λ c κs. tt) (λ c κs. tt)
+    (λ c. let e = c .before .before .before in late _ (sized (e .before)) (e .if1 .left) (c .first2 .ensures (rows (e .before)) (search needs))))
