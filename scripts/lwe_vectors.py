@@ -16,7 +16,7 @@ call gives beside the buffer. After a refusal the answer is 0 and the buffer is 
 
 How document 01 is read, where it leaves a choice:
 - A number applies exactly when the call takes the operand that it speaks of; the lowest that applies is the
-  answer, over the whole call. So an opening, which takes parameters with E in them, judges 13.
+  answer, over the whole call. An opening takes no E, so it has no 13.
 - 9 and 10 speak of what is read, 11 of what is written, 12 of what is lent for randomness.
 - A dimension is judged by its kind, before the call that is to take it. So no record has 2 and 6 both.
 - A plaintext is a word (14); a message has 16 only, also where it is not below q.
@@ -349,7 +349,7 @@ NONE, FRESH, GIVEN, ABSENT = range(4)
 
 
 def tag(source, tally=0):
-    """How a tag is made: LweTag::none, fresh, from_tally of a tally or of none."""
+    """Where a tag comes from: a call that gives none, an encryption, saved data with a tally or without."""
     return [source, tally % 2**32, tally >> 32]
 
 
@@ -359,12 +359,16 @@ def tally_of(words):
     return low + 2**32 * high if source in (FRESH, GIVEN) else None
 
 
+def tag_of(tally):
+    return tag(NONE) if tally is None else tag(GIVEN, tally)
+
+
 def exceeds(tally):
     return tally is not None and tally > 2**32
 
 
 class TagSum(Call):
-    """LweTag::add of the tags a and b; the answer 1 says that the sum's tally is that of the tag c."""
+    """add_assign of zeros with the tags a and b; the sum's tag is c."""
 
     kind, name = 4, "tally sum"
     numbers = [17]
@@ -375,11 +379,10 @@ class TagSum(Call):
 
     def make(self, x, y):
         a, b = tally_of(x), tally_of(y)
-        total = tag(NONE) if a is None or b is None else tag(GIVEN, (a + b) % 2**64)
-        return Case(None, 1, a=x, b=y, c=total)
+        return Case(None, 1, a=x, b=y, c=tag_of(None if a is None or b is None else (a + b) % 2**64))
 
     def result(self, k):
-        return 1, []
+        return 0, []
 
 
 class Mark(Call):
@@ -409,17 +412,39 @@ class Mark(Call):
 
 
 class Add(Call):
-    """add_assign(modulus, n, x, y): x is the buffer, y is b."""
+    """add_assign(modulus, n, x, y): x is the buffer, y is b; a holds the tag of x and then that of y, c that of the sum."""
 
     kind, name = 6, "sum"
-    fields = {10: ("out", "b"), 14: ("out", "b")}
+    fields = {10: ("out", "b"), 14: ("out", "b"), 17: ("a",)}
 
     def own_rows(self, k):
         yield 10, len(k.out) != k.n + 1 or len(k.b) != k.n + 1
         yield 14, words_fail(k.q, k.out) or words_fail(k.q, k.b)
+        x, y = self.tallies(k)
+        yield 17, exceeds(x) or exceeds(y) or (x is not None and y is not None and exceeds(x + y))
+
+    @staticmethod
+    def tallies(k):
+        return tally_of(k.a[:3]), tally_of(k.a[3:])
+
+    def tagged(self, k, x, y):
+        a, b = tally_of(x), tally_of(y)
+        return replace(k, a=x + y, c=tag_of(None if a is None or b is None else (a + b) % 2**64))
 
     def make(self, p):
-        return self.operands(p, out=p.words(p.n + 1), b=p.words(p.n + 1))
+        k = self.operands(p, out=p.words(p.n + 1), b=p.words(p.n + 1))
+        draw = Draw(sum(k.b) % 2**32)
+        served = [x for x in TALLIES if not exceeds(tally_of(x))]
+        k = self.tagged(k, draw.choose(served), draw.choose(served))
+        return self.tagged(k, tag(FRESH, 1), tag(FRESH, 2)) if 17 in {n for n, holds in self.own_rows(k) if holds} else k
+
+    def faults(self, k, number, draw):
+        if number == 17:
+            yield self.tagged(k, tag(GIVEN, 2**32 + 1), tag(NONE))
+            yield self.tagged(k, tag(FRESH, 7), tag(GIVEN, 2**63))
+            yield self.tagged(k, tag(GIVEN, 2**32), tag(FRESH, 1))
+        else:
+            yield from super().faults(k, number, draw)
 
     def result(self, k):
         return 0, [(x + y) % k.q for x, y in zip(k.out, k.b)]
@@ -500,6 +525,7 @@ class Phase(Secret):
     """decrypt_phase: ciphertext b; the answer is the phase."""
 
     kind, name = 10, "phase"
+    takes_E = False
     fields = {9: ("a",), 10: ("b",), 14: ("a", "b")}
 
     def own_rows(self, k):
@@ -647,6 +673,7 @@ class PackPhases(Secret):
     """decrypt_phase_packed: packed ciphertext b, phases in the buffer."""
 
     kind, name = 17, "packed phases"
+    takes_E = False
     fields = {9: ("a",), 10: ("b",), 11: ("out",), 14: ("a", "b")}
 
     def own_rows(self, k):
@@ -722,6 +749,7 @@ class BatchPhases(Secret):
     """decrypt_phase_batch_to: a run of ciphertexts b, phases in the buffer."""
 
     kind, name = 18, "batch of phases"
+    takes_E = False
     fields = {9: ("a",), 10: (), 11: ("out",), 14: ("a", "b")}
 
     def own_rows(self, k):
@@ -939,7 +967,7 @@ def counts(call):
                 for count in (0, 1, 8, 9):
                     yield call.make(p, count)
                 # An empty batch is judged whole.
-                for number in (9, 11, 13, 14):
+                for number in {9, 11, 13, 14} & {*call.numbers}:
                     yield from call.faults(call.make(p, 0), number, draw)
             if isinstance(call, BatchPhases):
                 for count in (0, 1, 4):

@@ -9,11 +9,21 @@ use Rattle.primus_encoding.specs.declared.PlaintextEmbedding.the-variants.{Unsi
 use Rattle.primus_lattice.specs.Answers.{given}
 use Rattle.primus_lwe.specs.declared.parameter.LweEncryptionParameters.{LweEncryptionParameters}
 use Rattle.primus_lwe.specs.declared.parameter.LweParameters.{LweParameters}
+use Rattle.primus_lwe.specs.declared.parameter.LwePhaseParameters.{LwePhaseParameters}
+use Rattle.primus_lwe.specs.declared.parameter.LweDecryptionParameters.{LweDecryptionParameters}
 use Rattle.key_switch_key.specs.declared.parameters.LweKeySwitchingParameters.{LweKeySwitchingParameters}
 use Rattle.key_switch_key.specs.Answers.{parametersWith}
 
 abbrev pub embeddingFor : ℕ → PlaintextEmbedding
 embeddingFor centered = pick (eqb centered 0) Unsigned Centered
+
+-- q and n
+abbrev pub phasesWith : ℕ → ℕ → LwePhaseParameters
+phasesWith q n = record { dimension = given n; modulus = modulusFor q }
+
+-- q, n and t
+abbrev pub decryptionWith : ℕ → ℕ → ℕ → LweDecryptionParameters
+decryptionWith q n t = record { dimension = given n; modulus = modulusFor q; «plaintext_modulus» = t }
 
 -- q, n and E
 abbrev pub encryptionWith : ℕ → ℕ → ℕ → LweEncryptionParameters

@@ -1,9 +1,30 @@
-// Answers of one number of 64 bits: the result, or 2^32 plus the refusal number.
+// Answers for C: a refusal with a tag, or one number of 64 bits, the result or 2^32 plus the refusal number.
 ghost use mathlib.Core.Path.{_≡_};
 ghost use Rattle.primus_encoding.specs.Answers.{orZero};
-ghost use Rattle.c_numbers.specs.Service.{refusedNumber, wordNumber, markNumber};
+ghost use Rattle.c_numbers.specs.Service.{outcomeOf, refusedNumber, wordNumber, markNumber};
 use checks::WordAnswer;
-use primus_lattice::MarkAnswer;
+use lwe_tag::LweAnswer;
+use lwe_tag::LweTag;
+use lwe_tag::MarkAnswer;
+
+// 0 and the tag of each ciphertext that was written; or the first number that applies, and no tally.
+#[repr(C)]
+pub struct LweOutcome {
+    pub refusal: u32,
+    pub tag: LweTag,
+}
+
+pub fn outcome(answer: LweAnswer) -> LweOutcome
+    ensures { λ r. ⌜ r ≡ outcomeOf answer ⌝ }
+{
+    match answer {
+        LweAnswer::Written(tag) => LweOutcome { refusal: 0, tag },
+        LweAnswer::Refused(refusal) => LweOutcome {
+            refusal,
+            tag: LweTag::none(),
+        },
+    }
+}
 
 pub fn refused(r: u32) -> u64
     ensures { λ x. ⌜ x ≡ refusedNumber r ⌝ }

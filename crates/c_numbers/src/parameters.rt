@@ -2,14 +2,17 @@
 ghost use mathlib.Core.Path.{_≡_};
 ghost use Rattle.primus_reduce.specs.Ring.{modulusFor};
 ghost use Rattle.primus_decompose.specs.Answers.{basisWith};
-ghost use Rattle.c_numbers.specs.Numbers.{embeddingFor, encryptionWith, messagesWith, switchingWith};
+ghost use Rattle.c_numbers.specs.Numbers.{embeddingFor, phasesWith, decryptionWith};
+ghost use Rattle.c_numbers.specs.Numbers.{encryptionWith, messagesWith, switchingWith};
 use key_switch_key::LweKeySwitchingParameters;
 use primus_decompose::ApproxSignedBasis;
 use primus_encoding::PlaintextEmbedding;
 use primus_encoding::RoundedCodec;
 use primus_lattice::LweDimension;
+use primus_lwe::LweDecryptionParameters;
 use primus_lwe::LweEncryptionParameters;
 use primus_lwe::LweParameters;
+use primus_lwe::LwePhaseParameters;
 use primus_reduce::Modulus;
 
 pub fn embedding_for(centered: u32) -> PlaintextEmbedding
@@ -31,6 +34,25 @@ pub fn codec_for(modulus: u32, t: u32) -> RoundedCodec
     ensures { λ r. ⌜ (r .«plaintext_modulus» ≡ t) × (r .«ciphertext_modulus» ≡ modulusFor modulus) ⌝ }
 {
     RoundedCodec::given(t, Modulus::from_number(modulus))
+}
+
+pub fn phases_for(modulus: u32, n: usize) -> LwePhaseParameters
+    ensures { λ r. ⌜ r ≡ phasesWith modulus n ⌝ }
+{
+    LwePhaseParameters {
+        dimension: LweDimension::given(n),
+        modulus: Modulus::from_number(modulus),
+    }
+}
+
+pub fn decryption_for(modulus: u32, n: usize, plaintext_modulus: u32) -> LweDecryptionParameters
+    ensures { λ r. ⌜ r ≡ decryptionWith modulus n «plaintext_modulus» ⌝ }
+{
+    LweDecryptionParameters {
+        dimension: LweDimension::given(n),
+        modulus: Modulus::from_number(modulus),
+        plaintext_modulus,
+    }
 }
 
 pub fn encryption_for(modulus: u32, n: usize, error_limit: u32) -> LweEncryptionParameters

@@ -5,9 +5,12 @@ use mathlib.Core.List.{List, [], _∷_, _++_}
 use Prim.Native.Nat.{ℕ, _+_, _*_, _/_, _≤_}
 use lib.ListN.{length}
 use Rattle.scheme.specs.Switch.{Below, switched, switchedBatch}
-use Rattle.scheme.specs.Checks.{Check, row, refusal, Writes, lengthFails, batchFails, wordsFail}
+use Rattle.scheme.specs.Tally.{Switched}
+use Rattle.scheme.specs.Checks.{Check, row, refusal, lengthFails, batchFails, wordsFail}
 use Rattle.primus_decompose.specs.Answers.{basis, rows}
 use Rattle.key_switch_key.specs.declared.parameters.LweKeySwitchingParameters.{LweKeySwitchingParameters}
+use Rattle.lwe_tag.specs.declared.LweAnswer.{LweAnswer}
+use Rattle.lwe_tag.specs.Answers.{tagFrom, WritesTagged}
 use Rattle.key_switch_key.specs.Answers.{qIn, nIn, mIn, keyWords, parameterRows}
 
 -- what both judge, where 10 says `bad` of the input's length and 11 `wrong` of the output's
@@ -33,18 +36,18 @@ batchRows P key input room =
     (batchFails (length input) (nIn P)) (lengthFails room (length input / (nIn P + 1) * (mIn P + 1)))
 
 -- "Output is (0, b) minus the sum of digit(i, j) × entry(i, j) modulo q"
-pub record Switches (P : LweKeySwitchingParameters) (key input before : List ℕ) (r : ℕ) (after : List ℕ)
+pub record Switches (P : LweKeySwitchingParameters) (key input before : List ℕ) (answer : LweAnswer) (after : List ℕ)
     : Type 0 where
   pub writes :
-      Writes (switchRows P key input (length before))
-      (switched (basis (P .basis)) (nIn P) (mIn P) key input) before r after
+      WritesTagged (switchRows P key input (length before)) (tagFrom Switched)
+      (switched (basis (P .basis)) (nIn P) (mIn P) key input) before answer after
 
 -- "Input and output are runs of ciphertexts": row t of the output is the one switch of row t of the input
-pub record SwitchesBatch (P : LweKeySwitchingParameters) (key input before : List ℕ) (r : ℕ) (after : List ℕ)
+pub record SwitchesBatch (P : LweKeySwitchingParameters) (key input before : List ℕ) (answer : LweAnswer) (after : List ℕ)
     : Type 0 where
   pub writes :
-      Writes (batchRows P key input (length before))
-      (switchedBatch (basis (P .basis)) (nIn P) (mIn P) key (length input / (nIn P + 1)) input) before r after
+      WritesTagged (batchRows P key input (length before)) (tagFrom Switched)
+      (switchedBatch (basis (P .basis)) (nIn P) (mIn P) key (length input / (nIn P + 1)) input) before answer after
 
 -- what the checks leave, for `count` ciphertexts into `room` words
 pub record Switchable (P : LweKeySwitchingParameters) (key input : List ℕ) (count room : ℕ) : Type 0 where

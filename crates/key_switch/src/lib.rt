@@ -15,6 +15,8 @@ use key_switch_kernel::switch_tiles;
 pub use key_switch_key::LweKeySwitchingKey;
 pub use key_switch_key::LweKeySwitchingParameters;
 pub use key_switch_key::LweKeySwitchingParametersAnswer;
+use lwe_tag::LweAnswer;
+use lwe_tag::LweTag;
 use primus_decompose::PreparedBasisAnswer;
 
 // The first refusal of a switch, or 0, where 10 and 11 are judged by the caller.
@@ -65,13 +67,13 @@ pub(crate) fn switch_judged(
     }
 }
 
-// One ciphertext, as a batch of one row. Refuses by 1 to 6, 9, 10, 11, 14.
+// One ciphertext, as a batch of one row; no tally. Refuses by 1 to 6, 9, 10, 11, 14.
 pub fn key_switch_to(
     params: LweKeySwitchingParameters,
     key: &[u32],
     input: &[u32],
     out: &mut [u32],
-) -> u32
+) -> LweAnswer
     ensures { λ r. ⌜ Switches params (now (key .entry)) (now (input .entry))
         (now (out .entry)) r (now (out .exit)) ⌝ }
 {
@@ -81,8 +83,8 @@ pub fn key_switch_to(
     let output_differs = m.ciphertext_differs(out.len());
     let r = switch_refusal(params, key, input, input_differs, output_differs);
     if r != 0 {
-        return r;
+        return LweAnswer::Refused(r);
     }
     switch_judged(out, input, key, 1, params);
-    0
+    LweAnswer::Written(LweTag::none())
 }

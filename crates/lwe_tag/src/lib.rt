@@ -1,13 +1,13 @@
 // What a ciphertext carries beside its words: its tally, which bounds its error. The calls that write a ciphertext answer its tag.
-// `fresh` and `none` are for those calls, which stand in the crates above; a caller has `LweTag::saved` alone.
+// The field is private: `LweTag::with_tally` is the one way to give a tally.
 ghost use mathlib.Core.Path.{_≡_};
 ghost use mathlib.Core.Bool.{false, _||_};
 ghost use Prim.Native.Nat.{_+_, _*_, _^_, _<_, _≤_};
 ghost use lib.Dec.{ltb};
 ghost use Rattle.scheme.specs.Checks.{refusal};
-ghost use Rattle.scheme.specs.Tally.{Fresh, Absent, addTally, good, tallyFails};
+ghost use Rattle.scheme.specs.Tally.{Absent, addTally, good, tallyFails};
 ghost use Rattle.primus_reduce.specs.Ring.{sizeOf};
-ghost use Rattle.lwe_tag.specs.Answers.{meantTally, heldTally, tallyFor, numberOfTally, tallyOf, tagOf, tagFrom};
+ghost use Rattle.lwe_tag.specs.Answers.{meantTally, heldTally, tallyFor, numberOfTally, tallyOf, tagOf};
 ghost use Rattle.lwe_tag.specs.Answers.{cap, markRows, markAnswer};
 use checks::Sizes;
 use checks::Values;
@@ -124,22 +124,6 @@ pub fn tags_sum(x: LweTag, y: LweTag) -> LweTag
     }
 }
 
-// The tag of a fresh single secret-key ciphertext: its tally is the limit E, not |e|.
-pub fn fresh(error_limit: u32) -> LweTag
-    ensures { λ r. ⌜ r ≡ tagFrom (Fresh «error_limit») ⌝ }
-{
-    LweTag {
-        tally: error_limit as u64,
-    }
-}
-
-// The tag of a public-key, packed or switched ciphertext, and of one body taken out of a packed one.
-pub fn none() -> LweTag
-    ensures { λ r. ⌜ r ≡ tagOf Absent ⌝ }
-{
-    LweTag { tally: u64::MAX }
-}
-
 // 2t × a + t < q. From a = 2^30 on it never holds, since t ≥ 2; below that the product has less than 64 bits.
 fn below(q: u64, t: u32, a: u64) -> bool
     requires { ⌜ (2 ≤ t) × (q ≤ 2 ^ 32) ⌝ }
@@ -179,12 +163,19 @@ fn mark_refusal(tag: LweTag, modulus: Modulus, t: u32) -> u32
 }
 
 impl LweTag {
-    // The tag of saved data, and the one way to give a tally: the sender's word, which nothing here can check against the words.
-    // Any number is taken; the calls judge it by 17.
-    pub fn saved(tally: u64) -> LweTag
+    // The tag of saved data: the tally is the sender's word, which nothing here can check against the words. Any number is taken;
+    // the calls judge it by 17. Encryption gives E.
+    pub fn with_tally(tally: u64) -> LweTag
         ensures { λ r. ⌜ r ≡ record { tally = tally } ⌝ }
     {
         LweTag { tally }
+    }
+
+    // The tag of a public-key, packed or switched ciphertext, and of one body taken out of a packed one.
+    pub fn none() -> LweTag
+        ensures { λ r. ⌜ r ≡ tagOf Absent ⌝ }
+    {
+        LweTag { tally: u64::MAX }
     }
 
     // The number to save.

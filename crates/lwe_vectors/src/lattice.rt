@@ -5,13 +5,12 @@ use crate::said::Said;
 use primus_lattice::LweDimension;
 use primus_lattice::LweDimensionAnswer;
 use primus_lattice::LweTag;
-use primus_lattice::LweTagAnswer;
 use primus_lattice::MarkAnswer;
-use primus_lattice::Tally;
 use primus_lwe::LweEncryptionParameters;
 use primus_lwe::LweEncryptionParametersAnswer;
 use primus_lwe::LweParameters;
 use primus_lwe::LweParametersAnswer;
+use primus_reduce::Modulus;
 
 fn dimension(n: usize) -> Said {
     match LweDimension::try_new(n) {
@@ -37,7 +36,15 @@ fn encryption_parameters(h: Head) -> Said {
 }
 
 fn parameters_are(h: Head, p: LweParameters) -> bool {
-    p.plaintext_modulus == h.t && encryption_parameters_are(h, p.encryption_parameters())
+    let opened = p.decryption_parameters();
+    let phases = opened.phase_parameters();
+    let dimension = phases.dimension;
+    let modulus = phases.modulus;
+    let given = h.modulus;
+    p.error_limit == h.error_limit
+        && opened.plaintext_modulus == h.t
+        && dimension.get() == h.n
+        && modulus.size() == given.size()
 }
 
 fn parameters(h: Head) -> Said {
@@ -56,36 +63,33 @@ fn word(words: &[u32], i: usize) -> u32 {
     0
 }
 
-// A record's tag: how it is made, and the low and the high word of its tally.
+// The words from `from` on, if there are any.
+fn part(words: &[u32], from: usize) -> &[u32] {
+    if from < words.len() {
+        return &words[from..];
+    }
+    &words[0..0]
+}
+
+// A record's tag: where its tally comes from, and the low and the high word of the tally; 0 and 3 have none.
 fn tag(words: &[u32]) -> LweTag {
     let low = word(words, 1);
     let tally = low as u64 + 0x1_0000_0000 * word(words, 2) as u64;
     match word(words, 0) {
-        0 => LweTag::none(),
-        1 => LweTag::fresh(low),
-        2 => LweTag::from_tally(Tally::Present(tally)),
-        _ => LweTag::from_tally(Tally::Absent),
+        1 | 2 => LweTag::with_tally(tally),
+        _ => said::none(),
     }
 }
 
-fn same_tally(x: Tally, y: Tally) -> bool {
-    match x {
-        Tally::Absent => match y {
-            Tally::Absent => true,
-            Tally::Present(_) => false,
-        },
-        Tally::Present(a) => match y {
-            Tally::Absent => false,
-            Tally::Present(b) => a == b,
-        },
-    }
-}
-
+// The tags alone, beside two ciphertexts of zeros.
 fn tally_sum(x: LweTag, y: LweTag, expected: LweTag) -> Said {
-    match x.add(y) {
-        LweTagAnswer::Tag(z) => said::holds(same_tally(z.tally(), expected.tally())),
-        LweTagAnswer::Refused(n) => said::refused(n),
-    }
+    let mut zeros = [0u32; 2];
+    let others = [0u32; 2];
+    let dimension = LweDimension::given(1);
+    said::written(
+        primus_lattice::add_assign(Modulus::Native, dimension, &mut zeros, x, &others, y),
+        expected,
+    )
 }
 
 fn mark(h: Head, x: LweTag) -> Said {
@@ -109,13 +113,18 @@ pub(crate) fn beside(h: Head, a: &[u32], b: &[u32], c: &[u32]) -> Said {
     }
 }
 
-// Kinds 6 and 7.
-pub(crate) fn ciphertexts(h: Head, b: &[u32], out: &mut [u32]) -> u32 {
+// Kinds 6 and 7: a sum of the buffer and b, whose tags stand in a one after the other, and that of the sum in c; a sample.
+pub(crate) fn ciphertexts(h: Head, a: &[u32], b: &[u32], c: &[u32], out: &mut [u32]) -> Said {
     let dimension = LweDimension::given(h.n);
     let modulus = h.modulus;
     if h.kind == 6 {
-        return primus_lattice::add_assign(modulus, dimension, out, b);
+        let y = tag(part(a, 3));
+        let answer = primus_lattice::add_assign(modulus, dimension, out, tag(a), b, y);
+        return said::written(answer, tag(c));
     }
     let index = h.value as usize;
-    primus_lattice::extract_lwe_at(modulus, dimension, b, index, out)
+    said::written(
+        primus_lattice::extract_lwe_at(modulus, dimension, b, index, out),
+        said::none(),
+    )
 }

@@ -17,10 +17,10 @@ fn call(h: Head, a: &[u32], b: &[u32], c: &[u32], d: &[i32], e: &[i32], out: &mu
     let kind = h.kind;
     match kind {
         1..=5 => lattice::beside(h, a, b, c),
-        6 | 7 => said::number(lattice::ciphertexts(h, b, out)),
-        8 | 9 | 12 | 13 | 23..=26 => said::number(single::encrypt(h, a, b, d, e, out)),
+        6 | 7 => lattice::ciphertexts(h, a, b, c, out),
+        8 | 9 | 12 | 13 | 23..=26 => single::encrypt(h, a, b, d, e, out),
         10 | 11 | 14 | 15 => single::decrypt(h, a, b, d),
-        16..=22 => said::number(packed::call(h, a, b, c, e, out)),
+        16..=22 => packed::call(h, a, b, c, e, out),
         _ => switch::said(h, a, b, c, d, e, out),
     }
 }

@@ -1,6 +1,7 @@
 // The parameters of a record, which no try_new has judged: each call judges them by itself.
 use crate::record::Head;
 use primus_lattice::LweDimension;
+use primus_lwe::LweDecryptionParameters;
 use primus_lwe::LweEncryptionParameters;
 use primus_lwe::LweParameters;
 
@@ -12,6 +13,11 @@ pub(crate) fn encryption(h: Head) -> LweEncryptionParameters {
         modulus,
         error_limit: h.error_limit,
     }
+}
+
+pub(crate) fn decryption(h: Head) -> LweDecryptionParameters {
+    let params = message(h);
+    params.decryption_parameters()
 }
 
 pub(crate) fn message(h: Head) -> LweParameters {

@@ -55,17 +55,17 @@ fn call(
     d: &[i32],
     e: &[i32],
     out: &mut [u32],
-) -> u32 {
+) -> Said {
     let limit = h.error_limit;
     let kind = h.kind;
     match kind {
-        27 => tried(params),
-        28 => LweKeySwitchingKey::generate(params, limit, a, c, b, e, out),
-        29 => LweKeySwitchingKey::generate_signed(params, limit, d, c, b, e, out),
-        30 => key_switch_to(params, a, b, out),
-        31 => key_switch_batch_to(params, a, b, out),
-        32 => entry(params, a, h.value, h.t, out),
-        _ => 999,
+        27 => said::number(tried(params)),
+        28 => said::number(LweKeySwitchingKey::generate(params, limit, a, c, b, e, out)),
+        29 => said::number(LweKeySwitchingKey::generate_signed(params, limit, d, c, b, e, out)),
+        30 => said::written(key_switch_to(params, a, b, out), said::none()),
+        31 => said::written(key_switch_batch_to(params, a, b, out), said::none()),
+        32 => said::number(entry(params, a, h.value, h.t, out)),
+        _ => said::nothing(),
     }
 }
 
@@ -97,7 +97,7 @@ pub(crate) fn said(
 ) -> Said {
     match basis(h) {
         ApproxSignedBasisAnswer::Accepted(basis) => {
-            said::number(call(h, parameters(h, basis), a, b, c, d, e, out))
+            call(h, parameters(h, basis), a, b, c, d, e, out)
         }
         ApproxSignedBasisAnswer::Refused(r) => said::refused(r),
     }

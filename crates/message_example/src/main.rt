@@ -3,8 +3,10 @@
 use checks::WordAnswer;
 use libc::STDOUT_FILENO;
 use primus_encoding::PlaintextEmbedding;
+use primus_lattice::LweAnswer;
 use primus_lattice::LweDimension;
 use primus_lattice::LweDimensionAnswer;
+use primus_lattice::Tally;
 use primus_lwe::LweParameters;
 use primus_lwe::LweParametersAnswer;
 use primus_lwe::decrypt_message;
@@ -17,7 +19,7 @@ fn say(label: &[u8], number: u32) {
     io::write_all(STDOUT_FILENO, b"\n");
 }
 
-fn encrypt(params: LweParameters, message: u32, out: &mut [u32]) -> u32 {
+fn encrypt(params: LweParameters, message: u32, out: &mut [u32]) -> LweAnswer {
     let secret = [3u32, 0xffff_ffff];
     let mask = [1000000007u32, 123456789];
     let errors = [-3i32];
@@ -32,9 +34,28 @@ fn encrypt(params: LweParameters, message: u32, out: &mut [u32]) -> u32 {
     )
 }
 
+// What was written has a tally, E; a refused call gives none.
+fn tell(answer: LweAnswer) {
+    match answer {
+        LweAnswer::Written(tag) => say_tally(tag.tally()),
+        LweAnswer::Refused(r) => say(b"refused ", r),
+    }
+}
+
+fn say_tally(tally: Tally) {
+    match tally {
+        Tally::Present(a) => {
+            io::write_all(STDOUT_FILENO, b"tally ");
+            io::print_decimal(STDOUT_FILENO, a);
+            io::write_all(STDOUT_FILENO, b"\n");
+        }
+        Tally::Absent => io::write_all(STDOUT_FILENO, b"no tally\n"),
+    }
+}
+
 fn open(params: LweParameters, ciphertext: &[u32]) {
     let secret = [3u32, 0xffff_ffff];
-    let opened = decrypt_message(params, &secret, ciphertext);
+    let opened = decrypt_message(params.decryption_parameters(), &secret, ciphertext);
     match opened {
         WordAnswer::Word(m) => say(b"message ", m),
         WordAnswer::Refused(r) => say(b"refused ", r),
@@ -43,12 +64,10 @@ fn open(params: LweParameters, ciphertext: &[u32]) {
 
 fn run(params: LweParameters) {
     let mut out = [0u32; 3];
-    let five = encrypt(params, 5, &mut out);
-    say(b"answer ", five);
+    tell(encrypt(params, 5, &mut out));
     say(b"body ", out[2]);
     open(params, &out);
-    let sixteen = encrypt(params, 16, &mut out);
-    say(b"answer ", sixteen);
+    tell(encrypt(params, 16, &mut out));
     say(b"body ", out[2]);
     let short = [out[0], out[1]];
     open(params, &short);

@@ -12,6 +12,7 @@ use crate::dimension::LweDimension;
 use checks::Sizes;
 use checks::Values;
 use lwe_tag::LweAnswer;
+use lwe_tag::LweTag;
 use primus_reduce::Modulus;
 
 // 10: fewer than n words, or more than n bodies. No sum: it could overflow.
@@ -100,5 +101,5 @@ pub fn extract_lwe_at(
         return LweAnswer::Refused(r);
     }
     write_extracted(out, input, dimension.get(), index, modulus);
-    LweAnswer::Written(lwe_tag::none())
+    LweAnswer::Written(LweTag::none())
 }

@@ -14,15 +14,17 @@ use Rattle.scheme.proofs.Residue.{residue-lt}
 use Rattle.scheme.proofs.Checks.{words-ok}
 use Rattle.scheme.proofs.Order.{passed}
 use Rattle.primus_reduce.specs.Ring.{sizeOf}
+use Rattle.primus_reduce.specs.declared.modulus.Modulus.{Modulus}
 use Rattle.primus_encoding.specs.Answers.{encodeWord, encodeAnswer, decodeAnswer, orZero}
 use Rattle.primus_encoding.specs.declared.PlaintextEmbedding.{PlaintextEmbedding}
 use Rattle.primus_encoding.proofs.Laws.{encode-passed, decode-passed}
 use Rattle.primus_lwe.specs.declared.parameter.LweParameters.{LweParameters}
+use Rattle.primus_lwe.specs.declared.parameter.LweDecryptionParameters.{LweDecryptionParameters}
 use Rattle.primus_lwe.specs.Answers.{Codable, encoded, encodings, messageRows, decryptRows}
 use Rattle.primus_lwe.proofs.Laws.{Encryptable, lent-ok, Phasable, phase-ok}
 
 -- what the codec answers
-module _ (P : LweParameters) (ok : Codable P) where
+module _ (P : LweParameters) (ok : Codable (P .«plaintext_modulus») (P .modulus)) where
   pub encoded-is : (g : PlaintextEmbedding) (x : ℕ) {w : ℕ} → messageFails (P .«plaintext_modulus») x ≡ false → w ≡ orZero (encodeAnswer (P .«plaintext_modulus») (P .modulus) g x)
       → pos w ≡ encoded g P x
   encoded-is g x e f = ap pos (f ∙ encode-passed (P .«plaintext_modulus») (P .modulus) x (ok .modulus-ok) (ok .plaintext-ok) (ok .small-ok) g e)
@@ -31,9 +33,8 @@ module _ (P : LweParameters) (ok : Codable P) where
       → w ≡ orZero (encodeAnswer (P .«plaintext_modulus») (P .modulus) g (getD xs i 0)) → pos w ≡ encodings g P xs i
   encoded-at g xs i e h f = encoded-is g (getD xs i 0) (lt-leb (P .«plaintext_modulus») (getD xs i 0) (words-ok (P .«plaintext_modulus») xs e i h)) f
 
-  pub decoded-is : (p : ℕ) {r : ℕ} → p < sizeOf (P .modulus) → r ≡ orZero (decodeAnswer (P .«plaintext_modulus») (P .modulus) p)
-      → r ≡ decode (sizeOf (P .modulus)) (P .«plaintext_modulus») p
-  decoded-is p h f = f ∙ decode-passed (P .«plaintext_modulus») (P .modulus) p (ok .modulus-ok) (ok .plaintext-ok) (ok .small-ok) (lt-leb (sizeOf (P .modulus)) p h)
+pub decoded-is : (t : ℕ) (m : Modulus) → Codable t m → (p : ℕ) {r : ℕ} → p < sizeOf m → r ≡ orZero (decodeAnswer t m p) → r ≡ decode (sizeOf m) t p
+decoded-is t m ok p h f = f ∙ decode-passed t m p (ok .modulus-ok) (ok .plaintext-ok) (ok .small-ok) (lt-leb (sizeOf m) p h)
 
 -- a phase is a word
 pub phase-below : (q n : ℕ) (x : List ℕ) (s : ℕ → ℤ) (p : ℕ) → 0 < q → p ≡ phaseOf q n x s → p < q
@@ -44,7 +45,7 @@ phase-below q n x s p h e = rw e (residue-lt (pos (getD x n 0) -ℤ inner n x s)
 
 pub record Messageable (P : LweParameters) (mask room x : ℕ) : Type 0 where
   pub plain : Encryptable (P .modulus) (P .dimension .0) mask room
-  pub codec : Codable P
+  pub codec : Codable (P .«plaintext_modulus») (P .modulus)
   pub message : messageFails (P .«plaintext_modulus») x ≡ false
 
 pub messageable : (P : LweParameters) (key : Key) (a : List ℕ) (es : List ℤ) (x room : ℕ) → refusal (messageRows P key a es x room) ≡ 0 → Messageable P (length a) room x
@@ -56,11 +57,11 @@ messageable P key a es x room e =
       message = no 16 tt;
     }
 
-pub record Decryptable (P : LweParameters) (len words : ℕ) : Type 0 where
+pub record Decryptable (P : LweDecryptionParameters) (len words : ℕ) : Type 0 where
   pub phases : Phasable (P .modulus) (P .dimension .0) len words
-  pub codec : Codable P
+  pub codec : Codable (P .«plaintext_modulus») (P .modulus)
 
-pub decryptable : (P : LweParameters) (key : Key) (x : List ℕ) → refusal (decryptRows P key x) ≡ 0 → Decryptable P (keyLength key) (length x)
+pub decryptable : (P : LweDecryptionParameters) (key : Key) (x : List ℕ) → refusal (decryptRows P key x) ≡ 0 → Decryptable P (keyLength key) (length x)
 decryptable P key x e =
     let no = passed (decryptRows P key x) e in
     record {

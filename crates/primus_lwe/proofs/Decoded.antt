@@ -19,7 +19,7 @@ use Rattle.primus_reduce.specs.Ring.{sizeOf}
 use Rattle.primus_reduce.specs.declared.modulus.Modulus.{Modulus}
 use Rattle.primus_encoding.specs.Answers.{decodeSliceRows, DecodesSlice}
 use Rattle.primus_encoding.proofs.Laws.{in-place}
-use Rattle.primus_lwe.specs.declared.parameter.LweParameters.{LweParameters}
+use Rattle.primus_lwe.specs.declared.parameter.LweDecryptionParameters.{LweDecryptionParameters}
 use Rattle.primus_lwe.specs.Answers.{Codable}
 
 all-below : (q : ℕ) (xs : List ℕ) → ((i : ℕ) → i < length xs → getD xs i 0 < q) → allOf (λ x. ltb x q) xs ≡ true
@@ -34,17 +34,17 @@ table-below q c f h =
     (all-below q (tabulate c f)
     (λ i k. let l : i < c = omega (arith, length-tabulate c f) in rw (getD-tabulate c f i l) (h i l)))
 
-accepted : (P : LweParameters) (xs : List ℕ) → Codable P → wordsFail (sizeOf (P .modulus)) xs ≡ false
-    → refusal (decodeSliceRows (P .«plaintext_modulus») (P .modulus) xs (length xs)) ≡ 0
+accepted : (t : ℕ) (m : Modulus) (xs : List ℕ) → Codable t m → wordsFail (sizeOf m) xs ≡ false
+    → refusal (decodeSliceRows t m xs (length xs)) ≡ 0
 unfolding refusal firstIn
-accepted P xs ok w = rw (ok .modulus-ok, ok .plaintext-ok, ok .small-ok, in-place xs, w)
+accepted t m xs ok w = rw (ok .modulus-ok, ok .plaintext-ok, ok .small-ok, in-place xs, w)
 
 -- the codec is that of the numbers t and m
-pub slice-decoded : (P : LweParameters) → Codable P → (f : ℕ → ℕ) (c : ℕ) → ((i : ℕ) → i < c → f i < sizeOf (P .modulus))
+pub slice-decoded : (P : LweDecryptionParameters) → Codable (P .«plaintext_modulus») (P .modulus) → (f : ℕ → ℕ) (c : ℕ) → ((i : ℕ) → i < c → f i < sizeOf (P .modulus))
     → (t : ℕ) (m : Modulus) (xs after : List ℕ) (r : ℕ) → (t ≡ P .«plaintext_modulus») × (m ≡ P .modulus) → xs ≡ tabulate c f → DecodesSlice t m xs xs r after
     → (r ≡ 0) × (after ≡ tabulate c (λ i. decode (sizeOf (P .modulus)) (P .«plaintext_modulus») (f i)))
 slice-decoded P ok f c h t m xs after r same e w =
-    let z : refusal (decodeSliceRows t m xs (length xs)) ≡ 0 = rw (same .0, same .1, e) (accepted P (tabulate c f) ok (table-below (sizeOf (P .modulus)) c f h)) in (
+    let z : refusal (decodeSliceRows t m xs (length xs)) ≡ 0 = rw (same .0, same .1, e) (accepted (P .«plaintext_modulus») (P .modulus) (tabulate c f) ok (table-below (sizeOf (P .modulus)) c f h)) in (
       w .writes .answered ∙ z,
       w .writes .holds ∙ rw (eq-eqb _ 0 z) (rw (same .0, same .1, e) (map-tabulate (decode (sizeOf (P .modulus)) (P .«plaintext_modulus»)) c f)),
     )

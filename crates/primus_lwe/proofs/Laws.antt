@@ -23,8 +23,9 @@ use Rattle.primus_reduce.specs.Ring.{meant, sizeOf, modulo}
 use Rattle.primus_reduce.specs.Dot.{dot, dotSigned}
 use Rattle.primus_reduce.specs.declared.modulus.Modulus.{Modulus}
 use Rattle.primus_lwe.specs.declared.parameter.LweEncryptionParameters.{LweEncryptionParameters}
-use Rattle.primus_lwe.specs.declared.parameter.LweParameters.{LweParameters}
-use Rattle.primus_lwe.specs.Answers.{encryptionParametersRows, parametersRows, judgedRows, encryptRows, phaseRows, replaced}
+use Rattle.primus_lwe.specs.declared.parameter.LwePhaseParameters.{LwePhaseParameters}
+use Rattle.primus_lwe.specs.declared.parameter.LweDecryptionParameters.{LweDecryptionParameters}
+use Rattle.primus_lwe.specs.Answers.{phaseParametersRows, decryptionParametersRows, judgedRows, encryptRows, phaseRows, replaced}
 
 -- the word that a reduction gives stands for its number
 pub modulo-stands : {q w : ℕ} → 0 < q → (z : ℤ) → w ≡ modulo q z → Cong q (pos w) z
@@ -88,21 +89,21 @@ module _ (a : List ℕ) (b : ℕ) where
 
 -- ---- one function judges a call that takes t and one that does not
 
-pub judged-without : (more : List Check) (P : LweEncryptionParameters) → applies more 7 ≡ false → applies more 8 ≡ false
-    → refusal (judgedRows false false P ++ more) ≡ refusal (encryptionParametersRows P ++ more)
+pub judged-without : (more : List Check) (P : LwePhaseParameters) → applies more 7 ≡ false → applies more 8 ≡ false
+    → refusal (judgedRows false false P ++ more) ≡ refusal (phaseParametersRows P ++ more)
 unfolding refusal firstIn
 judged-without more P seven eight = rw (seven, eight)
 
-abbrev encryptionOf : LweParameters → LweEncryptionParameters
-encryptionOf P = record { dimension = P .dimension; modulus = P .modulus; «error_limit» = P .«error_limit» }
+abbrev phasesOf : LweDecryptionParameters → LwePhaseParameters
+phasesOf P = record { dimension = P .dimension; modulus = P .modulus }
 
-pub judged-with : (more : Modulus → ℕ → List Check) (P : LweParameters) {Q : LweEncryptionParameters} {b s : Bool} → Q ≡ encryptionOf P
+pub judged-with : (more : Modulus → ℕ → List Check) (P : LweDecryptionParameters) {Q : LwePhaseParameters} {b s : Bool} → Q ≡ phasesOf P
     → b ≡ plaintextFails (P .«plaintext_modulus») → s ≡ smallFails (P .«plaintext_modulus») (meant (P .modulus))
-    → refusal (judgedRows b s Q ++ more (Q .modulus) (Q .dimension .0)) ≡ refusal (parametersRows P ++ more (P .modulus) (P .dimension .0))
+    → refusal (judgedRows b s Q ++ more (Q .modulus) (Q .dimension .0)) ≡ refusal (decryptionParametersRows P ++ more (P .modulus) (P .dimension .0))
 unfolding refusal firstIn
 judged-with more P {Q} {b} {s} eq eb es =
     ap (λ Q. refusal (judgedRows b s Q ++ more (Q .modulus) (Q .dimension .0))) eq
-    ∙ ap₂ (λ b s. refusal (judgedRows b s (encryptionOf P) ++ more (P .modulus) (P .dimension .0))) eb es
+    ∙ ap₂ (λ b s. refusal (judgedRows b s (phasesOf P) ++ more (P .modulus) (P .dimension .0))) eb es
 
 -- ---- what the checks leave
 
@@ -134,7 +135,7 @@ pub phase-ok : (m : Modulus) (n len words : ℕ) → modulusFails (meant m) ≡ 
 phase-ok m n len words two nine ten =
     record { positive = omega (arith, modulus-ok 32 (meant m) (omega arith) two); key = length-ok _ _ nine; whole = length-ok _ _ ten }
 
-pub phasable : (P : LweEncryptionParameters) (key : Key) (x : List ℕ) → refusal (phaseRows P key x) ≡ 0
+pub phasable : (P : LwePhaseParameters) (key : Key) (x : List ℕ) → refusal (phaseRows P key x) ≡ 0
     → Phasable (P .modulus) (P .dimension .0) (keyLength key) (length x)
 phasable P key x e =
     let no = passed (phaseRows P key x) e in

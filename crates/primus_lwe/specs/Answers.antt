@@ -9,7 +9,8 @@ use lib.ListN.{length, getD, take, drop}
 use Rattle.scheme.specs.Numbers.{pick}
 use Rattle.scheme.specs.Lwe.{Key, secretOf, keyLength, encrypted, phaseOf}
 use Rattle.scheme.specs.Codec.{decode}
-use Rattle.scheme.specs.Checks.{Check, row, refusal, Writes, modulusFails, dimensionFails, plaintextFails, smallFails}
+use Rattle.scheme.specs.Tally.{Fresh}
+use Rattle.scheme.specs.Checks.{Check, row, refusal, modulusFails, dimensionFails, plaintextFails, smallFails}
 use Rattle.scheme.specs.Checks.{lengthFails, errorLimitFails, wordFails, wordsFail, keyFails, errorsFail, messageFails}
 use Rattle.primus_reduce.specs.Ring.{meant, sizeOf}
 use Rattle.primus_reduce.specs.declared.modulus.Modulus.{Modulus}
@@ -17,14 +18,30 @@ use Rattle.primus_encoding.specs.declared.PlaintextEmbedding.{PlaintextEmbeddin
 use Rattle.primus_encoding.specs.Answers.{encodeWord}
 use Rattle.checks.specs.Answers.{wordAnswer}
 use Rattle.checks.specs.declared.WordAnswer.{WordAnswer}
+use Rattle.lwe_tag.specs.declared.LweAnswer.{LweAnswer}
+use Rattle.lwe_tag.specs.Answers.{tagFrom, WritesTagged}
 use Rattle.primus_lwe.specs.declared.parameter.LweEncryptionParameters.{LweEncryptionParameters}
 use Rattle.primus_lwe.specs.declared.parameter.LweEncryptionParametersAnswer.{LweEncryptionParametersAnswer}
 use Rattle.primus_lwe.specs.declared.parameter.LweEncryptionParametersAnswer.the-variants as E
+use Rattle.primus_lwe.specs.declared.parameter.LwePhaseParameters.{LwePhaseParameters}
+use Rattle.primus_lwe.specs.declared.parameter.LweDecryptionParameters.{LweDecryptionParameters}
 use Rattle.primus_lwe.specs.declared.parameter.LweParameters.{LweParameters}
 use Rattle.primus_lwe.specs.declared.parameter.LweParametersAnswer.{LweParametersAnswer}
 use Rattle.primus_lwe.specs.declared.parameter.LweParametersAnswer.the-variants as L
 
--- parameters judge 2, 6, 13, and with t 7 and 8
+-- parameters of an opening judge 2 and 6, and with t 7 and 8; "Phase = b − ⟨a, s⟩" has no E
+abbrev pub phaseParametersRows : LwePhaseParameters → List Check
+phaseParametersRows P = row (modulusFails (meant (P .modulus))) 2 ∷ row (dimensionFails (P .dimension .0)) 6 ∷ []
+
+abbrev pub decryptionParametersRows : LweDecryptionParameters → List Check
+decryptionParametersRows P =
+    row (modulusFails (meant (P .modulus))) 2
+    ∷ row (dimensionFails (P .dimension .0)) 6
+    ∷ row (plaintextFails (P .«plaintext_modulus»)) 7
+    ∷ row (smallFails (P .«plaintext_modulus») (meant (P .modulus))) 8
+    ∷ []
+
+-- parameters of an encryption judge 13 besides
 abbrev pub encryptionParametersRows : LweEncryptionParameters → List Check
 encryptionParametersRows P =
     row (modulusFails (meant (P .modulus))) 2
@@ -67,13 +84,13 @@ encryptRows P key a es p room =
     ∷ row (errorsFail (P .«error_limit») es) 15
     ∷ []
 
--- "b = ⟨a, s⟩ + e + p": the output holds a and b
+-- "b = ⟨a, s⟩ + e + p": the output holds a and b, and has tally E
 pub record Encrypts (P : LweEncryptionParameters) (key : Key) (a : List ℕ) (es : List ℤ) (p : ℕ) (before : List ℕ)
-    (r : ℕ) (after : List ℕ) : Type 0 where
+    (answer : LweAnswer) (after : List ℕ) : Type 0 where
   pub writes :
-      Writes (encryptRows P key a es p (length before))
+      WritesTagged (encryptRows P key a es p (length before)) (tagFrom (Fresh (P .«error_limit»)))
       (encrypted (sizeOf (P .modulus)) (P .dimension .0) a (secretOf key) (getD es 0 (pos 0)) (pos p))
-      before r after
+      before answer after
 
 -- what a phase and a decryption of the ciphertext x are judged by besides their parameters
 abbrev pub ciphertextRows : Modulus → ℕ → Key → List ℕ → List Check
@@ -84,11 +101,11 @@ ciphertextRows m n key x =
     ∷ row (wordsFail (sizeOf m) x) 14
     ∷ []
 
-abbrev pub phaseRows : LweEncryptionParameters → Key → List ℕ → List Check
-phaseRows P key x = encryptionParametersRows P ++ ciphertextRows (P .modulus) (P .dimension .0) key x
+abbrev pub phaseRows : LwePhaseParameters → Key → List ℕ → List Check
+phaseRows P key x = phaseParametersRows P ++ ciphertextRows (P .modulus) (P .dimension .0) key x
 
 -- "Phase = b − ⟨a, s⟩"
-pub record TakesPhase (P : LweEncryptionParameters) (key : Key) (x : List ℕ) (answer : WordAnswer) : Type 0 where
+pub record TakesPhase (P : LwePhaseParameters) (key : Key) (x : List ℕ) (answer : WordAnswer) : Type 0 where
   pub is : answer ≡ wordAnswer (phaseRows P key x) (phaseOf (sizeOf (P .modulus)) (P .dimension .0) x (secretOf key))
 
 -- ---- a message below t
@@ -114,19 +131,19 @@ messageRows P key a es x room =
     ∷ row (messageFails (P .«plaintext_modulus») x) 16
     ∷ []
 
--- "b = ⟨a, s⟩ + e + p" of the plaintext p of x
+-- "b = ⟨a, s⟩ + e + p" of the plaintext p of x, with tally E
 pub record EncryptsMessage (P : LweParameters) (g : PlaintextEmbedding) (key : Key) (a : List ℕ) (es : List ℤ) (x : ℕ)
-    (before : List ℕ) (r : ℕ) (after : List ℕ) : Type 0 where
+    (before : List ℕ) (answer : LweAnswer) (after : List ℕ) : Type 0 where
   pub writes :
-      Writes (messageRows P key a es x (length before))
+      WritesTagged (messageRows P key a es x (length before)) (tagFrom (Fresh (P .«error_limit»)))
       (encrypted (sizeOf (P .modulus)) (P .dimension .0) a (secretOf key) (getD es 0 (pos 0)) (encoded g P x))
-      before r after
+      before answer after
 
-abbrev pub decryptRows : LweParameters → Key → List ℕ → List Check
-decryptRows P key x = parametersRows P ++ ciphertextRows (P .modulus) (P .dimension .0) key x
+abbrev pub decryptRows : LweDecryptionParameters → Key → List ℕ → List Check
+decryptRows P key x = decryptionParametersRows P ++ ciphertextRows (P .modulus) (P .dimension .0) key x
 
 -- the message is the decoded phase
-pub record Decrypts (P : LweParameters) (key : Key) (x : List ℕ) (answer : WordAnswer) : Type 0 where
+pub record Decrypts (P : LweDecryptionParameters) (key : Key) (x : List ℕ) (answer : WordAnswer) : Type 0 where
   pub is :
       answer ≡ wordAnswer (decryptRows P key x)
       (decode (sizeOf (P .modulus)) (P .«plaintext_modulus»)
@@ -134,15 +151,15 @@ pub record Decrypts (P : LweParameters) (key : Key) (x : List ℕ) (answer : Wor
 
 -- ---- for the steps, and no part of a promise
 
--- 2, 6 and 13, with what a call says of 7 and 8: false where it takes no t
-abbrev pub judgedRows : Bool → Bool → LweEncryptionParameters → List Check
-judgedRows plaintext small P = row plaintext 7 ∷ row small 8 ∷ encryptionParametersRows P
+-- 2 and 6, with what a call says of 7 and 8: false where it takes no t
+abbrev pub judgedRows : Bool → Bool → LwePhaseParameters → List Check
+judgedRows plaintext small P = row plaintext 7 ∷ row small 8 ∷ phaseParametersRows P
 
--- what a codec asks: 2, 7 and 8 do not apply
-pub record Codable (P : LweParameters) : Type 0 where
-  pub modulus-ok : modulusFails (meant (P .modulus)) ≡ false
-  pub plaintext-ok : plaintextFails (P .«plaintext_modulus») ≡ false
-  pub small-ok : smallFails (P .«plaintext_modulus») (meant (P .modulus)) ≡ false
+-- what a codec of t and m asks: 2, 7 and 8 do not apply
+pub record Codable (t : ℕ) (m : Modulus) : Type 0 where
+  pub modulus-ok : modulusFails (meant m) ≡ false
+  pub plaintext-ok : plaintextFails t ≡ false
+  pub small-ok : smallFails t (meant m) ≡ false
 
 -- what writing a run asks, of n and the lengths of masks, errors and output: a row for each error
 pub record Run (q n masks errors room : ℕ) : Type 0 where

@@ -4,10 +4,12 @@ mod parameter;
 mod secret_key;
 
 pub use batch::encrypt_row;
+pub use parameter::LweDecryptionParameters;
 pub use parameter::LweEncryptionParameters;
 pub use parameter::LweEncryptionParametersAnswer;
 pub use parameter::LweParameters;
 pub use parameter::LweParametersAnswer;
+pub use parameter::LwePhaseParameters;
 pub use secret_key::KeyForm;
 pub use secret_key::decrypt_message;
 pub use secret_key::decrypt_message_signed;

@@ -1,11 +1,25 @@
 // What encryption is set up with. The constructors judge it at once; every call judges it again, with what it is lent.
 ghost use mathlib.Core.Path.{_≡_};
 ghost use Rattle.checks.specs.Judged.{JudgesSizes};
+ghost use Rattle.primus_lwe.specs.Answers.{phaseParametersRows, decryptionParametersRows};
 ghost use Rattle.primus_lwe.specs.Answers.{encryptionParametersRows, encryptionParametersAnswer};
 ghost use Rattle.primus_lwe.specs.Answers.{parametersRows, parametersAnswer};
 use checks::Sizes;
 use primus_lattice::LweDimension;
 use primus_reduce::Modulus;
+
+// Dimension n and modulus q: what a phase is taken with.
+pub struct LwePhaseParameters {
+    pub dimension: LweDimension,
+    pub modulus: Modulus,
+}
+
+// Dimension n, modulus q and plaintext modulus t: what a decryption is made with.
+pub struct LweDecryptionParameters {
+    pub dimension: LweDimension,
+    pub modulus: Modulus,
+    pub plaintext_modulus: u32,
+}
 
 // Dimension n, modulus q and the limit E of errors.
 pub struct LweEncryptionParameters {
@@ -31,6 +45,46 @@ pub enum LweEncryptionParametersAnswer {
 pub enum LweParametersAnswer {
     Accepted(LweParameters),
     Refused(u32),
+}
+
+impl LwePhaseParameters {
+    // 2 and 6, for a call to add what it judges.
+    pub fn sizes(self) -> Sizes
+        ensures { λ r. ⌜ JudgesSizes (phaseParametersRows self) r ⌝ }
+    {
+        let modulus = self.modulus;
+        let dimension = self.dimension;
+        let mut s = Sizes::NONE;
+        s.modulus = checks::modulus_refused(modulus);
+        s.dimension = dimension.refused();
+        s
+    }
+}
+
+impl LweDecryptionParameters {
+    // 2, 6, 7 and 8, for a call to add what it judges.
+    pub fn sizes(self) -> Sizes
+        ensures { λ r. ⌜ JudgesSizes (decryptionParametersRows self) r ⌝ }
+    {
+        let modulus = self.modulus;
+        let dimension = self.dimension;
+        let t = self.plaintext_modulus;
+        let mut s = Sizes::NONE;
+        s.modulus = checks::modulus_refused(modulus);
+        s.dimension = dimension.refused();
+        s.plaintext = checks::plaintext_refused(t);
+        s.small = checks::small_refused(t, modulus);
+        s
+    }
+
+    // What phases need of them.
+    pub fn phase_parameters(self) -> LwePhaseParameters
+        ensures { λ r. ⌜ r ≡ record { dimension = self .dimension; modulus = self .modulus } ⌝ }
+    {
+        let dimension = self.dimension;
+        let modulus = self.modulus;
+        LwePhaseParameters { dimension, modulus }
+    }
 }
 
 impl LweEncryptionParameters {
@@ -113,17 +167,20 @@ impl LweParameters {
         LweParametersAnswer::Accepted(params)
     }
 
-    // What encoded plaintexts need of them.
-    pub fn encryption_parameters(self) -> LweEncryptionParameters
-        ensures { λ r. ⌜ r ≡
-            record { dimension = self .dimension; modulus = self .modulus; «error_limit» = self .«error_limit» } ⌝ }
+    // What a decryption needs of them.
+    pub fn decryption_parameters(self) -> LweDecryptionParameters
+        ensures { λ r. ⌜ r ≡ record {
+          dimension = self .dimension;
+          modulus = self .modulus;
+          «plaintext_modulus» = self .«plaintext_modulus»;
+        } ⌝ }
     {
         let dimension = self.dimension;
         let modulus = self.modulus;
-        LweEncryptionParameters {
+        LweDecryptionParameters {
             dimension,
             modulus,
-            error_limit: self.error_limit,
+            plaintext_modulus: self.plaintext_modulus,
         }
     }
 }

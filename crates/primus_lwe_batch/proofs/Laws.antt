@@ -15,7 +15,8 @@ use Rattle.scheme.proofs.Checks.{modulus-ok, length-ok}
 use Rattle.scheme.proofs.Order.{passed, neither}
 use Rattle.primus_reduce.specs.Ring.{meant, sizeOf}
 use Rattle.primus_reduce.specs.declared.modulus.Modulus.{Modulus}
-use Rattle.primus_lwe.specs.declared.parameter.LweEncryptionParameters.{LweEncryptionParameters}
+use Rattle.primus_lwe.specs.declared.parameter.LwePhaseParameters.{LwePhaseParameters}
+use Rattle.primus_lwe.specs.declared.parameter.LweDecryptionParameters.{LweDecryptionParameters}
 use Rattle.primus_lwe.specs.declared.parameter.LweParameters.{LweParameters}
 use Rattle.primus_lwe.specs.Answers.{Codable, Run}
 use Rattle.primus_lwe.proofs.Coded.{phase-below}
@@ -27,7 +28,7 @@ pub record Batchable (P : LweParameters) (len masks errors : ℕ) (xs : List ℕ
   pub run : Run (sizeOf (P .modulus)) len masks errors room
   pub each : length xs ≡ errors
   pub key : len ≡ P .dimension .0
-  pub codec : Codable P
+  pub codec : Codable (P .«plaintext_modulus») (P .modulus)
   pub messages : messagesFail (P .«plaintext_modulus») xs ≡ false
 
 pub batchable : (P : LweParameters) (key : Key) (masks : List ℕ) (es : List ℤ) (xs : List ℕ) (room : ℕ) → refusal (encryptBatchRows P key masks es xs room) ≡ 0
@@ -76,17 +77,17 @@ phases-ok m n len words room two nine ten eleven =
     whole : (x w : ℕ) → x % w ≡ 0 → x ≡ x / w * w
     whole x w e = omega (arith, div-add-mod x w)
 
-pub phasable : (P : LweEncryptionParameters) (key : Key) (x : List ℕ) (room : ℕ) → refusal (phasesRows P key x room) ≡ 0
+pub phasable : (P : LwePhaseParameters) (key : Key) (x : List ℕ) (room : ℕ) → refusal (phasesRows P key x room) ≡ 0
     → Phasable (P .modulus) (P .dimension .0) (keyLength key) (length x) room
 phasable P key x room e =
     let no = passed (phasesRows P key x room) e in
     phases-ok (P .modulus) (P .dimension .0) (keyLength key) (length x) room (no 2 tt) (no 9 tt) (no 10 tt) (no 11 tt)
 
-pub record Decryptable (P : LweParameters) (len words room : ℕ) : Type 0 where
+pub record Decryptable (P : LweDecryptionParameters) (len words room : ℕ) : Type 0 where
   pub phases : Phasable (P .modulus) (P .dimension .0) len words room
-  pub codec : Codable P
+  pub codec : Codable (P .«plaintext_modulus») (P .modulus)
 
-pub decryptable : (P : LweParameters) (key : Key) (x : List ℕ) (room : ℕ) → refusal (decryptBatchRows P key x room) ≡ 0
+pub decryptable : (P : LweDecryptionParameters) (key : Key) (x : List ℕ) (room : ℕ) → refusal (decryptBatchRows P key x room) ≡ 0
     → Decryptable P (keyLength key) (length x) room
 decryptable P key x room e =
     let no = passed (decryptBatchRows P key x room) e in

@@ -12,9 +12,13 @@ use Rattle.scheme.specs.Checks.{wordsFail, keyFails, errorsFail, messagesFail}
 use Rattle.primus_reduce.specs.Ring.{sizeOf}
 use Rattle.primus_reduce.specs.declared.modulus.Modulus.{Modulus}
 use Rattle.primus_encoding.specs.declared.PlaintextEmbedding.{PlaintextEmbedding}
-use Rattle.primus_lwe.specs.declared.parameter.LweEncryptionParameters.{LweEncryptionParameters}
+use Rattle.primus_lwe.specs.declared.parameter.LwePhaseParameters.{LwePhaseParameters}
+use Rattle.primus_lwe.specs.declared.parameter.LweDecryptionParameters.{LweDecryptionParameters}
 use Rattle.primus_lwe.specs.declared.parameter.LweParameters.{LweParameters}
-use Rattle.primus_lwe.specs.Answers.{encryptionParametersRows, parametersRows, encodings}
+use Rattle.primus_lwe.specs.Answers.{phaseParametersRows, decryptionParametersRows, parametersRows, encodings}
+use Rattle.lwe_tag.specs.declared.LweAnswer.{LweAnswer}
+use Rattle.lwe_tag.specs.Answers.{tagFrom, WritesTagged}
+use Rattle.scheme.specs.Tally.{Fresh}
 
 -- encryptions of the messages xs into `room` words
 abbrev pub encryptBatchRows : LweParameters → Key → List ℕ → List ℤ → List ℕ → ℕ → List Check
@@ -30,13 +34,14 @@ encryptBatchRows P key masks es xs room =
     ∷ row (messagesFail (P .«plaintext_modulus») xs) 16
     ∷ []
 
+-- each row is one encryption, with tally E
 pub record EncryptsBatch (P : LweParameters) (g : PlaintextEmbedding) (key : Key) (masks : List ℕ) (es : List ℤ)
-    (xs before : List ℕ) (r : ℕ) (after : List ℕ) : Type 0 where
+    (xs before : List ℕ) (answer : LweAnswer) (after : List ℕ) : Type 0 where
   pub writes :
-      Writes (encryptBatchRows P key masks es xs (length before))
+      WritesTagged (encryptBatchRows P key masks es xs (length before)) (tagFrom (Fresh (P .«error_limit»)))
       (encryptedRows (sizeOf (P .modulus)) (P .dimension .0) (length xs) masks (secretOf key) (signed es)
       (encodings g P xs))
-      before r after
+      before answer after
 
 -- what phases and messages of the batch x into `room` words are judged by besides their parameters
 abbrev pub batchRows : Modulus → ℕ → Key → List ℕ → ℕ → List Check
@@ -52,20 +57,21 @@ batchRows m n key x room =
 abbrev pub batchPhase : ℕ → ℕ → Key → List ℕ → ℕ → ℕ
 batchPhase q n key x i = phaseOf q n (rowOf n x i) (secretOf key)
 
-abbrev pub phasesRows : LweEncryptionParameters → Key → List ℕ → ℕ → List Check
-phasesRows P key x room = encryptionParametersRows P ++ batchRows (P .modulus) (P .dimension .0) key x room
+abbrev pub phasesRows : LwePhaseParameters → Key → List ℕ → ℕ → List Check
+phasesRows P key x room = phaseParametersRows P ++ batchRows (P .modulus) (P .dimension .0) key x room
 
-pub record TakesPhases (P : LweEncryptionParameters) (key : Key) (x before : List ℕ) (r : ℕ) (after : List ℕ)
+pub record TakesPhases (P : LwePhaseParameters) (key : Key) (x before : List ℕ) (r : ℕ) (after : List ℕ)
     : Type 0 where
   pub writes :
       Writes (phasesRows P key x (length before))
       (tabulate (length x / (P .dimension .0 + 1)) (batchPhase (sizeOf (P .modulus)) (P .dimension .0) key x))
       before r after
 
-abbrev pub decryptBatchRows : LweParameters → Key → List ℕ → ℕ → List Check
-decryptBatchRows P key x room = parametersRows P ++ batchRows (P .modulus) (P .dimension .0) key x room
+abbrev pub decryptBatchRows : LweDecryptionParameters → Key → List ℕ → ℕ → List Check
+decryptBatchRows P key x room = decryptionParametersRows P ++ batchRows (P .modulus) (P .dimension .0) key x room
 
-pub record DecryptsBatch (P : LweParameters) (key : Key) (x before : List ℕ) (r : ℕ) (after : List ℕ) : Type 0 where
+pub record DecryptsBatch (P : LweDecryptionParameters) (key : Key) (x before : List ℕ) (r : ℕ) (after : List ℕ)
+    : Type 0 where
   pub writes :
       Writes (decryptBatchRows P key x (length before))
       (tabulate (length x / (P .dimension .0 + 1))

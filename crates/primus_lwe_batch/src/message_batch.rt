@@ -13,12 +13,15 @@ ghost use Rattle.primus_lwe_batch.specs.Answers.{encryptBatchRows, Encry
 ghost use Rattle.primus_lwe_batch.specs.Answers.{batchRows, TakesPhases, DecryptsBatch};
 use crate::sizes;
 use checks::Values;
+use lwe_tag::LweAnswer;
+use lwe_tag::LweTag;
 use primus_encoding::PlaintextEmbedding;
 use primus_encoding::RoundedCodec;
 use primus_encoding::encode_or_zero;
 use primus_lwe::KeyForm;
-use primus_lwe::LweEncryptionParameters;
+use primus_lwe::LweDecryptionParameters;
 use primus_lwe::LweParameters;
+use primus_lwe::LwePhaseParameters;
 use primus_lwe::encrypt_row;
 use primus_lwe::phase;
 use primus_reduce::Modulus;
@@ -34,7 +37,7 @@ fn write_messages(
     messages: &[u32],
 )
     requires { ⌜ Run (sizeOf (params .modulus)) (length (now secret)) (length (now masks)) (length (now errors))
-        (length (now out)) × (length (now messages) ≡ length (now errors)) × Codable params
+        (length (now out)) × (length (now messages) ≡ length (now errors)) × Codable (params .«plaintext_modulus») (params .modulus)
         × (messagesFail (params .«plaintext_modulus») (now messages) ≡ false) ⌝ }
     ensures { λ _. ⌜ now (out .exit) ≡
         encryptedRows (sizeOf (params .modulus)) (length (now (secret .entry))) (length (now (errors .entry)))
@@ -92,7 +95,7 @@ fn encrypt_refusal(
     v.first()
 }
 
-// An encryption of encode(m) for each message, if any. Refuses by 2, 6, 7, 8, 9, 11, 12, 13, 14, 15, 16.
+// An encryption of encode(m) for each message, if any; each row has tally E. Refuses by 2, 6, 7, 8, 9, 11, 12, 13, 14, 15, 16.
 pub fn encrypt_message_batch_to(
     params: LweParameters,
     embedding: PlaintextEmbedding,
@@ -101,16 +104,16 @@ pub fn encrypt_message_batch_to(
     errors: &[i32],
     messages: &[u32],
     out: &mut [u32],
-) -> u32
+) -> LweAnswer
     ensures { λ r. ⌜ EncryptsBatch params embedding (Words (now (secret .entry))) (now (masks .entry))
         (now (errors .entry)) (now (messages .entry)) (now (out .entry)) r (now (out .exit)) ⌝ }
 {
     let r = encrypt_refusal(params, secret, masks, errors, messages, out.len());
     if r != 0 {
-        return r;
+        return LweAnswer::Refused(r);
     }
     write_messages(out, params, embedding, secret, masks, errors, messages);
-    0
+    LweAnswer::Written(LweTag::with_tally(params.error_limit as u64))
 }
 
 // The phase of row i.
@@ -141,7 +144,7 @@ fn row_phases(out: &mut [u32], input: &[u32], secret: &[u32], modulus: Modulus)
 
 // What refuses phases or messages of a batch; a call without t gives false for 7 and 8.
 fn decrypt_refusal(
-    params: LweEncryptionParameters,
+    params: LwePhaseParameters,
     plaintext: bool,
     small: bool,
     secret: &[u32],
@@ -169,9 +172,9 @@ fn decrypt_refusal(
     v.first()
 }
 
-// The phase of each ciphertext. Refuses by 2, 6, 9, 10, 11, 13, 14.
+// The phase of each ciphertext. Refuses by 2, 6, 9, 10, 11, 14.
 pub fn decrypt_phase_batch_to(
-    params: LweEncryptionParameters,
+    params: LwePhaseParameters,
     secret: &[u32],
     input: &[u32],
     out: &mut [u32],
@@ -188,9 +191,9 @@ pub fn decrypt_phase_batch_to(
     0
 }
 
-// decode of the phase of each ciphertext. Refuses by 2, 6, 7, 8, 9, 10, 11, 13, 14.
+// decode of the phase of each ciphertext. Refuses by 2, 6, 7, 8, 9, 10, 11, 14.
 pub fn decrypt_message_batch_to(
-    params: LweParameters,
+    params: LweDecryptionParameters,
     secret: &[u32],
     input: &[u32],
     out: &mut [u32],
@@ -202,8 +205,8 @@ pub fn decrypt_message_batch_to(
     let t = params.plaintext_modulus;
     let plaintext = checks::plaintext_refused(t);
     let small = checks::small_refused(t, modulus);
-    let encryption = params.encryption_parameters();
-    let r = decrypt_refusal(encryption, plaintext, small, secret, input, out.len());
+    let phases = params.phase_parameters();
+    let r = decrypt_refusal(phases, plaintext, small, secret, input, out.len());
     if r != 0 {
         return r;
     }

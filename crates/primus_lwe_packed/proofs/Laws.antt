@@ -25,6 +25,8 @@ use Rattle.primus_reduce.specs.declared.modulus.Modulus.{Modulus}
 use Rattle.primus_encoding.specs.declared.PlaintextEmbedding.{PlaintextEmbedding}
 use Rattle.primus_lwe.specs.declared.parameter.LweEncryptionParameters.{LweEncryptionParameters}
 use Rattle.primus_lwe.specs.declared.parameter.LweParameters.{LweParameters}
+use Rattle.primus_lwe.specs.declared.parameter.LwePhaseParameters.{LwePhaseParameters}
+use Rattle.primus_lwe.specs.declared.parameter.LweDecryptionParameters.{LweDecryptionParameters}
 use Rattle.primus_lwe.specs.Answers.{Codable, encodings}
 use Rattle.primus_lwe.proofs.Coded.{encoded-at}
 use Rattle.primus_lwe.proofs.Laws.{modulo-stands}
@@ -185,14 +187,14 @@ phase-ok m n key words room two nine ten eleven =
     let c : room ≡ words - n = length-ok _ _ eleven in
     record { positive = omega (arith, modulus-ok 32 (meant m) (omega arith) two); keys = length-ok _ _ nine; bodies = omega arith; whole = omega arith; count = c }
 
-pub phasable : (P : LweEncryptionParameters) (s x : List ℕ) (room : ℕ) → refusal (packedPhaseRows P s x room) ≡ 0
+pub phasable : (P : LwePhaseParameters) (s x : List ℕ) (room : ℕ) → refusal (packedPhaseRows P s x room) ≡ 0
     → Phasable (sizeOf (P .modulus)) (P .dimension .0) (length s) (length x) room
 phasable P s x room e =
     let no = passed (packedPhaseRows P s x room) e in
     phase-ok (P .modulus) (P .dimension .0) (length s) (length x) room (no 2 tt) (no 9 tt) (no 10 tt) (no 11 tt)
 
-pub decryptable : (P : LweParameters) (s x : List ℕ) (room : ℕ) → refusal (packedDecryptRows P s x room) ≡ 0
-    → Phasable (sizeOf (P .modulus)) (P .dimension .0) (length s) (length x) room × Codable P
+pub decryptable : (P : LweDecryptionParameters) (s x : List ℕ) (room : ℕ) → refusal (packedDecryptRows P s x room) ≡ 0
+    → Phasable (sizeOf (P .modulus)) (P .dimension .0) (length s) (length x) room × Codable (P .«plaintext_modulus») (P .modulus)
 decryptable P s x room e =
     let no = passed (packedDecryptRows P s x room) e in (
       phase-ok (P .modulus) (P .dimension .0) (length s) (length x) room (no 2 tt) (no 9 tt) (no 10 tt) (no 11 tt),

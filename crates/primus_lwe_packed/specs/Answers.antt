@@ -12,7 +12,13 @@ use Rattle.primus_reduce.specs.Ring.{sizeOf}
 use Rattle.primus_encoding.specs.declared.PlaintextEmbedding.{PlaintextEmbedding}
 use Rattle.primus_lwe.specs.declared.parameter.LweEncryptionParameters.{LweEncryptionParameters}
 use Rattle.primus_lwe.specs.declared.parameter.LweParameters.{LweParameters}
-use Rattle.primus_lwe.specs.Answers.{encryptionParametersRows, parametersRows, encodings}
+use Rattle.primus_lwe.specs.declared.parameter.LwePhaseParameters.{LwePhaseParameters}
+use Rattle.primus_lwe.specs.declared.parameter.LweDecryptionParameters.{LweDecryptionParameters}
+use Rattle.primus_lwe.specs.Answers.{phaseParametersRows, decryptionParametersRows, encryptionParametersRows}
+use Rattle.primus_lwe.specs.Answers.{parametersRows, encodings}
+use Rattle.lwe_tag.specs.declared.LweAnswer.{LweAnswer}
+use Rattle.lwe_tag.specs.Answers.{tagFrom, WritesTagged}
+use Rattle.scheme.specs.Tally.{Packed}
 
 -- ---- encryption
 
@@ -32,12 +38,12 @@ packedRows P s a es ps room =
     ∷ []
 
 -- "Packed: count c from 0 to n, n masks, then c bodies"
-pub record EncryptsPacked (P : LweEncryptionParameters) (s a : List ℕ) (es : List ℤ) (ps before : List ℕ) (r : ℕ)
-    (after : List ℕ) : Type 0 where
+pub record EncryptsPacked (P : LweEncryptionParameters) (s a : List ℕ) (es : List ℤ) (ps before : List ℕ)
+    (answer : LweAnswer) (after : List ℕ) : Type 0 where
   pub writes :
-      Writes (packedRows P s a es ps (length before))
+      WritesTagged (packedRows P s a es ps (length before)) (tagFrom Packed)
       (packed (sizeOf (P .modulus)) (P .dimension .0) (length ps) a (words s) (signed es) (words ps))
-      before r after
+      before answer after
 
 -- of the messages xs below t
 abbrev pub packedMessageRows : LweParameters → List ℕ → List ℕ → List ℤ → List ℕ → ℕ → List Check
@@ -56,18 +62,18 @@ packedMessageRows P s a es xs room =
 
 -- each body holds the plaintext of a message
 pub record EncryptsPackedMessages (P : LweParameters) (g : PlaintextEmbedding) (s a : List ℕ) (es : List ℤ)
-    (xs before : List ℕ) (r : ℕ) (after : List ℕ) : Type 0 where
+    (xs before : List ℕ) (answer : LweAnswer) (after : List ℕ) : Type 0 where
   pub writes :
-      Writes (packedMessageRows P s a es xs (length before))
+      WritesTagged (packedMessageRows P s a es xs (length before)) (tagFrom Packed)
       (packed (sizeOf (P .modulus)) (P .dimension .0) (length xs) a (words s) (signed es) (encodings g P xs))
-      before r after
+      before answer after
 
 -- ---- decryption
 
 -- the phases of the packed ciphertext x under the words s
-abbrev pub packedPhaseRows : LweEncryptionParameters → List ℕ → List ℕ → ℕ → List Check
+abbrev pub packedPhaseRows : LwePhaseParameters → List ℕ → List ℕ → ℕ → List Check
 packedPhaseRows P s x room =
-    encryptionParametersRows P
+    phaseParametersRows P
     ++ row (lengthFails (length s) (P .dimension .0)) 9
     ∷ row (packedFails (length x) (P .dimension .0)) 10
     ∷ row (lengthFails room (length x - P .dimension .0)) 11
@@ -76,7 +82,7 @@ packedPhaseRows P s x room =
     ∷ []
 
 -- the phase of each body
-pub record TakesPackedPhases (P : LweEncryptionParameters) (s x before : List ℕ) (r : ℕ)
+pub record TakesPackedPhases (P : LwePhaseParameters) (s x before : List ℕ) (r : ℕ)
     (after : List ℕ) : Type 0 where
   pub writes :
       Writes (packedPhaseRows P s x (length before))
@@ -84,9 +90,9 @@ pub record TakesPackedPhases (P : LweEncryptionParameters) (s x before : List �
       before r after
 
 -- its messages
-abbrev pub packedDecryptRows : LweParameters → List ℕ → List ℕ → ℕ → List Check
+abbrev pub packedDecryptRows : LweDecryptionParameters → List ℕ → List ℕ → ℕ → List Check
 packedDecryptRows P s x room =
-    parametersRows P
+    decryptionParametersRows P
     ++ row (lengthFails (length s) (P .dimension .0)) 9
     ∷ row (packedFails (length x) (P .dimension .0)) 10
     ∷ row (lengthFails room (length x - P .dimension .0)) 11
@@ -95,7 +101,7 @@ packedDecryptRows P s x room =
     ∷ []
 
 -- each message is the decoded phase of a body
-pub record DecryptsPacked (P : LweParameters) (s x before : List ℕ) (r : ℕ) (after : List ℕ) : Type 0 where
+pub record DecryptsPacked (P : LweDecryptionParameters) (s x before : List ℕ) (r : ℕ) (after : List ℕ) : Type 0 where
   pub writes :
       Writes (packedDecryptRows P s x (length before))
       (tabulate (length x - P .dimension .0)

@@ -6,8 +6,11 @@ ghost use Rattle.primus_lwe_packed.specs.Answers.{packedDecryptRows, Dec
 use crate::packed;
 use crate::packed::Packing;
 use checks::Values;
+use lwe_tag::LweAnswer;
+use lwe_tag::LweTag;
 use primus_encoding::PlaintextEmbedding;
 use primus_encoding::RoundedCodec;
+use primus_lwe::LweDecryptionParameters;
 use primus_lwe::LweParameters;
 
 fn packed_message_refusal(
@@ -40,7 +43,7 @@ fn packed_message_refusal(
     v.first()
 }
 
-// n mask words, then a body for each message. Refuses by 2, 6, 7, 8, 9, 10, 11, 12, 13, 14, 15, 16.
+// n mask words, then a body for each message; no tally. Refuses by 2, 6, 7, 8, 9, 10, 11, 12, 13, 14, 15, 16.
 pub fn encrypt_message_packed(
     params: LweParameters,
     embedding: PlaintextEmbedding,
@@ -49,21 +52,26 @@ pub fn encrypt_message_packed(
     errors: &[i32],
     messages: &[u32],
     out: &mut [u32],
-) -> u32
+) -> LweAnswer
     ensures { λ r. ⌜ EncryptsPackedMessages params embedding (now (secret .entry)) (now (mask .entry))
         (now (errors .entry)) (now (messages .entry)) (now (out .entry)) r (now (out .exit)) ⌝ }
 {
     let r = packed_message_refusal(params, secret, mask, errors, messages, out.len());
     if r != 0 {
-        return r;
+        return LweAnswer::Refused(r);
     }
     let modulus = params.modulus;
     let packing = Packing::Messages(params.plaintext_modulus, embedding);
     packed::write_packed(out, packing, mask, secret, errors, messages, modulus);
-    0
+    LweAnswer::Written(LweTag::none())
 }
 
-fn packed_decrypt_refusal(params: LweParameters, secret: &[u32], input: &[u32], room: usize) -> u32
+fn packed_decrypt_refusal(
+    params: LweDecryptionParameters,
+    secret: &[u32],
+    input: &[u32],
+    room: usize,
+) -> u32
     ensures { λ r. ⌜ r ≡ refusal (packedDecryptRows params (now (secret .entry)) (now (input .entry)) room) ⌝ }
 {
     let modulus = params.modulus;
@@ -81,9 +89,9 @@ fn packed_decrypt_refusal(params: LweParameters, secret: &[u32], input: &[u32], 
     v.first()
 }
 
-// decode of the phase of each body. Refuses by 2, 6, 7, 8, 9, 10, 11, 13, 14.
+// decode of the phase of each body. Refuses by 2, 6, 7, 8, 9, 10, 11, 14.
 pub fn decrypt_message_packed(
-    params: LweParameters,
+    params: LweDecryptionParameters,
     secret: &[u32],
     input: &[u32],
     out: &mut [u32],

@@ -12,11 +12,14 @@ ghost use Rattle.primus_lwe_packed.specs.Packing.{Packable, plaintextOf,
 ghost use Rattle.primus_lwe_packed.specs.Answers.{packedRows, EncryptsPacked};
 ghost use Rattle.primus_lwe_packed.specs.Answers.{packedPhaseRows, TakesPackedPhases};
 use checks::Values;
+use lwe_tag::LweAnswer;
+use lwe_tag::LweTag;
 use primus_encoding::PlaintextEmbedding;
 use primus_encoding::encode_or_zero;
 use primus_lattice::LweDimension;
 use primus_lattice::packed_refused;
 use primus_lwe::LweEncryptionParameters;
+use primus_lwe::LwePhaseParameters;
 use primus_lwe::error_residue;
 use primus_reduce::Modulus;
 
@@ -222,7 +225,7 @@ fn packed_refusal(
     v.first()
 }
 
-// n mask words, then a body for each plaintext. Refuses by 2, 6, 9, 10, 11, 12, 13, 14, 15.
+// n mask words, then a body for each plaintext; no tally. Refuses by 2, 6, 9, 10, 11, 12, 13, 14, 15.
 pub fn encrypt_encoded_packed(
     params: LweEncryptionParameters,
     secret: &[u32],
@@ -230,13 +233,13 @@ pub fn encrypt_encoded_packed(
     errors: &[i32],
     plaintexts: &[u32],
     out: &mut [u32],
-) -> u32
+) -> LweAnswer
     ensures { λ r. ⌜ EncryptsPacked params (now (secret .entry)) (now (mask .entry)) (now (errors .entry))
         (now (plaintexts .entry)) (now (out .entry)) r (now (out .exit)) ⌝ }
 {
     let r = packed_refusal(params, secret, mask, errors, plaintexts, out.len());
     if r != 0 {
-        return r;
+        return LweAnswer::Refused(r);
     }
     let modulus = params.modulus;
     write_packed(
@@ -248,7 +251,7 @@ pub fn encrypt_encoded_packed(
         plaintexts,
         modulus,
     );
-    0
+    LweAnswer::Written(LweTag::none())
 }
 
 // 10: fewer than n words, or more than n bodies.
@@ -270,7 +273,7 @@ pub(crate) fn output_differs(dimension: LweDimension, room: usize, len: usize) -
 }
 
 fn packed_phase_refusal(
-    params: LweEncryptionParameters,
+    params: LwePhaseParameters,
     secret: &[u32],
     input: &[u32],
     room: usize,
@@ -292,9 +295,9 @@ fn packed_phase_refusal(
     v.first()
 }
 
-// The phase of each body. Refuses by 2, 6, 9, 10, 11, 13, 14.
+// The phase of each body. Refuses by 2, 6, 9, 10, 11, 14.
 pub fn decrypt_phase_packed(
-    params: LweEncryptionParameters,
+    params: LwePhaseParameters,
     secret: &[u32],
     input: &[u32],
     out: &mut [u32],

@@ -11,6 +11,9 @@ use Rattle.primus_encoding.specs.declared.PlaintextEmbedding.{PlaintextEmbeddin
 use Rattle.primus_lwe.specs.declared.parameter.LweEncryptionParameters.{LweEncryptionParameters}
 use Rattle.primus_lwe.specs.declared.parameter.LweParameters.{LweParameters}
 use Rattle.primus_lwe.specs.Answers.{encryptionParametersRows, parametersRows, encoded}
+use Rattle.lwe_tag.specs.declared.LweAnswer.{LweAnswer}
+use Rattle.lwe_tag.specs.Answers.{tagFrom, WritesTagged}
+use Rattle.scheme.specs.Tally.{PublicKey}
 
 -- a generation under a secret key, from n lent masks, one after the other, and n errors
 abbrev pub generateRows : LweEncryptionParameters → Key → List ℕ → List ℤ → ℕ → List Check
@@ -54,10 +57,10 @@ publicRows P key es rs p room =
 
 -- "starts from n + 1 errors, adds p to the body, then adds or subtracts row i by a lent coefficient rᵢ"
 pub record EncryptsPublic (P : LweEncryptionParameters) (key : List ℕ) (es rs : List ℤ) (p : ℕ)
-    (before : List ℕ) (r : ℕ) (after : List ℕ) : Type 0 where
+    (before : List ℕ) (answer : LweAnswer) (after : List ℕ) : Type 0 where
   pub writes :
-      Writes (publicRows P key es rs p (length before))
-      (publicEncrypted (sizeOf (P .modulus)) (P .dimension .0) key (signed es) (pos p) (signed rs)) before r after
+      WritesTagged (publicRows P key es rs p (length before)) (tagFrom PublicKey)
+      (publicEncrypted (sizeOf (P .modulus)) (P .dimension .0) key (signed es) (pos p) (signed rs)) before answer after
 
 -- an encryption of the message x below t
 abbrev pub publicMessageRows : LweParameters → List ℕ → List ℤ → List ℤ → ℕ → ℕ → List Check
@@ -69,8 +72,8 @@ publicMessageRows P key es rs x room =
 
 -- as above, of the plaintext p of x
 pub record EncryptsPublicMessage (P : LweParameters) (g : PlaintextEmbedding) (key : List ℕ) (es rs : List ℤ) (x : ℕ)
-    (before : List ℕ) (r : ℕ) (after : List ℕ) : Type 0 where
+    (before : List ℕ) (answer : LweAnswer) (after : List ℕ) : Type 0 where
   pub writes :
-      Writes (publicMessageRows P key es rs x (length before))
+      WritesTagged (publicMessageRows P key es rs x (length before)) (tagFrom PublicKey)
       (publicEncrypted (sizeOf (P .modulus)) (P .dimension .0) key (signed es) (encoded g P x) (signed rs))
-      before r after
+      before answer after

@@ -12,6 +12,8 @@ ghost use Rattle.primus_lwe_public_key.specs.Answers.{publicRows, Encryp
 ghost use Rattle.primus_lwe_public_key.specs.Answers.{publicMessageRows, EncryptsPublicMessage};
 use crate::rows;
 use checks::Values;
+use lwe_tag::LweAnswer;
+use lwe_tag::LweTag;
 use primus_encoding::PlaintextEmbedding;
 use primus_encoding::encode_or_zero;
 use primus_lattice::LweDimension;
@@ -198,7 +200,7 @@ impl LwePublicKey {
         generate_under(params, KeyForm::Signed, &[], secret, masks, errors, out)
     }
 
-    // An encryption of p from n + 1 errors and n coefficients. Refuses by 2, 6, 9, 11, 12, 13, 14, 15.
+    // An encryption of p from n + 1 errors and n coefficients; no tally. Refuses by 2, 6, 9, 11, 12, 13, 14, 15.
     pub fn encrypt_encoded_to(
         params: LweEncryptionParameters,
         key: &[u32],
@@ -206,20 +208,20 @@ impl LwePublicKey {
         coefficients: &[i32],
         plaintext: u32,
         out: &mut [u32],
-    ) -> u32
+    ) -> LweAnswer
         ensures { λ r. ⌜ EncryptsPublic params (now (key .entry)) (now (errors .entry)) (now (coefficients .entry))
             plaintext (now (out .entry)) r (now (out .exit)) ⌝ }
     {
         let r = public_refusal(params, key, errors, coefficients, plaintext, out.len());
         if r != 0 {
-            return r;
+            return LweAnswer::Refused(r);
         }
         let modulus = params.modulus;
         rows::write_public(out, key, errors, coefficients, plaintext, modulus);
-        0
+        LweAnswer::Written(LweTag::none())
     }
 
-    // An encryption of encode(m). Refuses by 2, 6, 7, 8, 9, 11, 12, 13, 14, 15, 16.
+    // An encryption of encode(m); no tally. Refuses by 2, 6, 7, 8, 9, 11, 12, 13, 14, 15, 16.
     pub fn encrypt_message_to(
         params: LweParameters,
         embedding: PlaintextEmbedding,
@@ -228,18 +230,18 @@ impl LwePublicKey {
         coefficients: &[i32],
         message: u32,
         out: &mut [u32],
-    ) -> u32
+    ) -> LweAnswer
         ensures { λ r. ⌜ EncryptsPublicMessage params embedding (now (key .entry)) (now (errors .entry))
             (now (coefficients .entry)) message (now (out .entry)) r (now (out .exit)) ⌝ }
     {
         let r = public_message_refusal(params, key, errors, coefficients, message, out.len());
         if r != 0 {
-            return r;
+            return LweAnswer::Refused(r);
         }
         let modulus = params.modulus;
         let t = params.plaintext_modulus;
         let plaintext = encode_or_zero(t, modulus, message, embedding);
         rows::write_public(out, key, errors, coefficients, plaintext, modulus);
-        0
+        LweAnswer::Written(LweTag::none())
     }
 }

@@ -13,6 +13,9 @@ use Rattle.scheme.specs.Lwe.{Key}
 use Rattle.checks.specs.declared.WordAnswer.{WordAnswer}
 use Rattle.primus_lwe.specs.declared.parameter.LweEncryptionParameters.{LweEncryptionParameters}
 use Rattle.primus_lwe.specs.declared.parameter.LweParameters.{LweParameters}
+use Rattle.primus_lwe.specs.declared.parameter.LwePhaseParameters.{LwePhaseParameters}
+use Rattle.primus_lwe.specs.declared.parameter.LweDecryptionParameters.{LweDecryptionParameters}
+use Rattle.lwe_tag.specs.declared.LweAnswer.{LweAnswer}
 use Rattle.primus_lwe.specs.Answers.{Encrypts, EncryptsMessage, TakesPhase, Decrypts}
 use Rattle.primus_lwe_batch.specs.Answers.{EncryptsBatch, TakesPhases, DecryptsBatch}
 use Rattle.key_switch_key.specs.declared.parameters.LweKeySwitchingParameters.{LweKeySwitchingParameters}
@@ -43,34 +46,36 @@ module _ {t u : ℕ} {m k : Modulus} (e : (t ≡ u) × (m ≡ k)) {xs before : L
       (subst (λ (z : ℕ). EncodesSlice z m g xs before r after) (e .0) h))
 
 module _ {P Q : LweEncryptionParameters} (e : P ≡ Q) where
-  pub encrypts-of : {key : Key} {a : List ℕ} {es : List ℤ} {p : ℕ} {before after : List ℕ} {r : ℕ}
+  pub encrypts-of : {key : Key} {a : List ℕ} {es : List ℤ} {p : ℕ} {before after : List ℕ} {r : LweAnswer}
       → Encrypts P key a es p before r after → Encrypts Q key a es p before r after
   encrypts-of {key} {a} {es} {p} {before} {after} {r} h = subst (λ (z : LweEncryptionParameters). Encrypts z key a es p before r after) e h
 
+module _ {P Q : LwePhaseParameters} (e : P ≡ Q) where
   pub takes-phase-of : {key : Key} {x : List ℕ} {answer : WordAnswer} → TakesPhase P key x answer → TakesPhase Q key x answer
-  takes-phase-of {key} {x} {answer} h = subst (λ (z : LweEncryptionParameters). TakesPhase z key x answer) e h
+  takes-phase-of {key} {x} {answer} h = subst (λ (z : LwePhaseParameters). TakesPhase z key x answer) e h
 
   pub takes-phases-of : {key : Key} {x before after : List ℕ} {r : ℕ} → TakesPhases P key x before r after → TakesPhases Q key x before r after
-  takes-phases-of {key} {x} {before} {after} {r} h = subst (λ (z : LweEncryptionParameters). TakesPhases z key x before r after) e h
+  takes-phases-of {key} {x} {before} {after} {r} h = subst (λ (z : LwePhaseParameters). TakesPhases z key x before r after) e h
 
 module _ {P Q : LweParameters} (e : P ≡ Q) where
-  pub encrypts-message-of : {g f : PlaintextEmbedding} → g ≡ f → {key : Key} {a : List ℕ} {es : List ℤ} {x : ℕ} {before after : List ℕ} {r : ℕ}
+  pub encrypts-message-of : {g f : PlaintextEmbedding} → g ≡ f → {key : Key} {a : List ℕ} {es : List ℤ} {x : ℕ} {before after : List ℕ} {r : LweAnswer}
       → EncryptsMessage P g key a es x before r after → EncryptsMessage Q f key a es x before r after
   encrypts-message-of {g} {f} eg {key} {a} {es} {x} {before} {after} {r} h =
       subst (λ (z : PlaintextEmbedding). EncryptsMessage Q z key a es x before r after) eg
       (subst (λ (z : LweParameters). EncryptsMessage z g key a es x before r after) e h)
 
-  pub decrypts-of : {key : Key} {x : List ℕ} {answer : WordAnswer} → Decrypts P key x answer → Decrypts Q key x answer
-  decrypts-of {key} {x} {answer} h = subst (λ (z : LweParameters). Decrypts z key x answer) e h
-
-  pub encrypts-batch-of : {g f : PlaintextEmbedding} → g ≡ f → {key : Key} {masks : List ℕ} {es : List ℤ} {xs before after : List ℕ} {r : ℕ}
+  pub encrypts-batch-of : {g f : PlaintextEmbedding} → g ≡ f → {key : Key} {masks : List ℕ} {es : List ℤ} {xs before after : List ℕ} {r : LweAnswer}
       → EncryptsBatch P g key masks es xs before r after → EncryptsBatch Q f key masks es xs before r after
   encrypts-batch-of {g} {f} eg {key} {masks} {es} {xs} {before} {after} {r} h =
       subst (λ (z : PlaintextEmbedding). EncryptsBatch Q z key masks es xs before r after) eg
       (subst (λ (z : LweParameters). EncryptsBatch z g key masks es xs before r after) e h)
 
+module _ {P Q : LweDecryptionParameters} (e : P ≡ Q) where
+  pub decrypts-of : {key : Key} {x : List ℕ} {answer : WordAnswer} → Decrypts P key x answer → Decrypts Q key x answer
+  decrypts-of {key} {x} {answer} h = subst (λ (z : LweDecryptionParameters). Decrypts z key x answer) e h
+
   pub decrypts-batch-of : {key : Key} {x before after : List ℕ} {r : ℕ} → DecryptsBatch P key x before r after → DecryptsBatch Q key x before r after
-  decrypts-batch-of {key} {x} {before} {after} {r} h = subst (λ (z : LweParameters). DecryptsBatch z key x before r after) e h
+  decrypts-batch-of {key} {x} {before} {after} {r} h = subst (λ (z : LweDecryptionParameters). DecryptsBatch z key x before r after) e h
 
 module _ {P Q : LweKeySwitchingParameters} (e : P ≡ Q) where
   pub generates-of : {E : ℕ} {key : Key} {s′ masks : List ℕ} {es : List ℤ} {before after : List ℕ} {r : ℕ}
@@ -78,8 +83,8 @@ module _ {P Q : LweKeySwitchingParameters} (e : P ≡ Q) where
   generates-of {E} {key} {s′} {masks} {es} {before} {after} {r} h =
       subst (λ (z : LweKeySwitchingParameters). Generates z E key s′ masks es before r after) e h
 
-  pub switches-of : {key x before after : List ℕ} {r : ℕ} → Switches P key x before r after → Switches Q key x before r after
+  pub switches-of : {key x before after : List ℕ} {r : LweAnswer} → Switches P key x before r after → Switches Q key x before r after
   switches-of {key} {x} {before} {after} {r} h = subst (λ (z : LweKeySwitchingParameters). Switches z key x before r after) e h
 
-  pub switches-batch-of : {key x before after : List ℕ} {r : ℕ} → SwitchesBatch P key x before r after → SwitchesBatch Q key x before r after
+  pub switches-batch-of : {key x before after : List ℕ} {r : LweAnswer} → SwitchesBatch P key x before r after → SwitchesBatch Q key x before r after
   switches-batch-of {key} {x} {before} {after} {r} h = subst (λ (z : LweKeySwitchingParameters). SwitchesBatch z key x before r after) e h

@@ -1,25 +1,40 @@
-// Sums, tallies, marks and samples, for C. The promises are those of primus_lattice.
+// Sums, marks and samples, for C. The promises are those of primus_lattice and lwe_tag.
 ghost use mathlib.Core.Path.{_≡_};
 ghost use Rattle.primus_reduce.specs.Ring.{modulusFor};
-ghost use Rattle.primus_lattice.specs.Answers.{given, Adds, Extracts, tallyFor, tagAnswer, markAnswer};
-ghost use Rattle.c_numbers.specs.Service.{tagNumber, markNumber};
+ghost use Rattle.lwe_tag.specs.Answers.{markAnswer};
+ghost use Rattle.primus_lattice.specs.Answers.{given, Adds, Extracts};
+ghost use Rattle.c_numbers.specs.Service.{Tells, outcomeOf, markNumber};
+use c_numbers::LweOutcome;
 use primus_lattice::LweDimension;
 use primus_lattice::LweTag;
-use primus_lattice::LweTagAnswer;
-use primus_lattice::Tally;
 use primus_lattice::add_assign;
 use primus_lattice::extract_lwe_at;
 use primus_reduce::Modulus;
 
-// x + y modulo q, word by word, in x. Refuses by 2, 6, 10, 14.
+// x + y modulo q, word by word, in x, and the tag of the sum. Refuses by 2, 6, 10, 14, 17.
 #[no_mangle]
-pub extern "C" fn saigagalena_add(modulus: u32, n: usize, x: &mut [u32], y: &[u32]) -> u32
-    ensures { λ r. ⌜ Adds (modulusFor modulus) (given n) (now (x .entry)) (now (y .entry)) r (now (x .exit)) ⌝ }
+pub extern "C" fn saigagalena_add(
+    modulus: u32,
+    n: usize,
+    x: &mut [u32],
+    x_tag: LweTag,
+    y: &[u32],
+    y_tag: LweTag,
+) -> LweOutcome
+    ensures { λ r. ⌜ Tells outcomeOf (λ z. Adds (modulusFor modulus) (given n) (now (x .entry)) «x_tag»
+        (now (y .entry)) «y_tag» z (now (x .exit))) r ⌝ }
 {
-    add_assign(Modulus::from_number(modulus), LweDimension::given(n), x, y)
+    c_numbers::outcome(add_assign(
+        Modulus::from_number(modulus),
+        LweDimension::given(n),
+        x,
+        x_tag,
+        y,
+        y_tag,
+    ))
 }
 
-// Body `index` of a packed ciphertext as a ciphertext of one message. Refuses by 2, 6, 10, 11, 14.
+// Body `index` of a packed ciphertext as a ciphertext of one message; no tally. Refuses by 2, 6, 10, 11, 14.
 #[no_mangle]
 pub extern "C" fn saigagalena_extract(
     modulus: u32,
@@ -27,40 +42,31 @@ pub extern "C" fn saigagalena_extract(
     input: &[u32],
     index: usize,
     out: &mut [u32],
-) -> u32
-    ensures { λ r. ⌜ Extracts (modulusFor modulus) (given n) (now (input .entry)) index
-        (now (out .entry)) r (now (out .exit)) ⌝ }
+) -> LweOutcome
+    ensures { λ r. ⌜ Tells outcomeOf (λ x. Extracts (modulusFor modulus) (given n) (now (input .entry)) index
+        (now (out .entry)) x (now (out .exit))) r ⌝ }
 {
-    extract_lwe_at(
+    c_numbers::outcome(extract_lwe_at(
         Modulus::from_number(modulus),
         LweDimension::given(n),
         input,
         index,
         out,
-    )
+    ))
 }
 
-// The tally of a sum, or 2^32 + 17.
+// The tag of saved data: any number; 2^64 − 1 is no tally. It is the sender's word, and the calls judge it by 17.
 #[no_mangle]
-pub extern "C" fn saigagalena_add_tally(x: u64, y: u64) -> u64
-    ensures { λ r. ⌜ r ≡ tagNumber (tagAnswer (tallyFor x) (tallyFor y)) ⌝ }
+pub extern "C" fn saigagalena_saved_tag(tally: u64) -> LweTag
+    ensures { λ r. ⌜ r ≡ record { tally = tally } ⌝ }
 {
-    let first = LweTag::from_tally(Tally::from_number(x));
-    let second = LweTag::from_tally(Tally::from_number(y));
-    match first.add(second) {
-        LweTagAnswer::Tag(tag) => {
-            let sum = tag.tally();
-            sum.number()
-        }
-        LweTagAnswer::Refused(r) => c_numbers::refused(r),
-    }
+    LweTag::with_tally(tally)
 }
 
 // 1 where 2t × tally + t < q, else 0; or 2^32 plus the first of 2, 7, 8, 17 that applies.
 #[no_mangle]
-pub extern "C" fn saigagalena_is_good(modulus: u32, t: u32, tally: u64) -> u64
-    ensures { λ r. ⌜ r ≡ markNumber (markAnswer (tallyFor tally) (modulusFor modulus) t) ⌝ }
+pub extern "C" fn saigagalena_is_good(modulus: u32, t: u32, tag: LweTag) -> u64
+    ensures { λ r. ⌜ r ≡ markNumber (markAnswer tag (modulusFor modulus) t) ⌝ }
 {
-    let tag = LweTag::from_tally(Tally::from_number(tally));
     c_numbers::mark_number(tag.is_good(Modulus::from_number(modulus), t))
 }

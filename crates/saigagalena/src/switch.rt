@@ -3,11 +3,13 @@ ghost use Rattle.scheme.specs.Lwe.{Words, Signed};
 ghost use Rattle.key_switch_key.specs.Answers.{Generates};
 ghost use Rattle.key_switch.specs.Answers.{Switches, SwitchesBatch};
 ghost use Rattle.c_numbers.specs.Numbers.{switchingWith};
+ghost use Rattle.c_numbers.specs.Service.{Tells, outcomeOf};
+use c_numbers::LweOutcome;
 use key_switch_key::LweKeySwitchingKey;
 
 // Entry (i, j) encrypts sᵢ × weight j under the output key. Refuses by 1 to 6, 9, 11, 12, 13, 14, 15.
 #[no_mangle]
-pub extern "C" fn saigagalena_key_generate(
+pub extern "C" fn saigagalena_switching_key_generate(
     modulus: u32,
     base_log: u32,
     levels: u32,
@@ -36,9 +38,9 @@ pub extern "C" fn saigagalena_key_generate(
     )
 }
 
-// saigagalena_key_generate from an input key of signed numbers.
+// saigagalena_switching_key_generate from an input key of signed numbers.
 #[no_mangle]
-pub extern "C" fn saigagalena_key_generate_signed(
+pub extern "C" fn saigagalena_switching_key_generate_signed(
     modulus: u32,
     base_log: u32,
     levels: u32,
@@ -67,7 +69,7 @@ pub extern "C" fn saigagalena_key_generate_signed(
     )
 }
 
-// (0, b) minus the sum of digit(i, j) × entry(i, j) modulo q. Refuses by 1 to 6, 9, 10, 11, 14.
+// (0, b) minus the sum of digit(i, j) × entry(i, j) modulo q; no tally. Refuses by 1 to 6, 9, 10, 11, 14.
 #[no_mangle]
 pub extern "C" fn saigagalena_key_switch(
     modulus: u32,
@@ -78,15 +80,15 @@ pub extern "C" fn saigagalena_key_switch(
     key: &[u32],
     input: &[u32],
     out: &mut [u32],
-) -> u32
-    ensures { λ r. ⌜ Switches (switchingWith modulus «base_log» levels n m) (now (key .entry))
-        (now (input .entry)) (now (out .entry)) r (now (out .exit)) ⌝ }
+) -> LweOutcome
+    ensures { λ r. ⌜ Tells outcomeOf (λ x. Switches (switchingWith modulus «base_log» levels n m) (now (key .entry))
+        (now (input .entry)) (now (out .entry)) x (now (out .exit))) r ⌝ }
 {
     let params = c_numbers::switching_for(modulus, base_log, levels, n, m);
-    key_switch::key_switch_to(params, key, input, out)
+    c_numbers::outcome(key_switch::key_switch_to(params, key, input, out))
 }
 
-// Each row by itself. Refuses by 1 to 6, 9, 10, 11, 14.
+// Each row by itself, none with a tally. Refuses by 1 to 6, 9, 10, 11, 14.
 #[no_mangle]
 pub extern "C" fn saigagalena_key_switch_batch(
     modulus: u32,
@@ -97,10 +99,10 @@ pub extern "C" fn saigagalena_key_switch_batch(
     key: &[u32],
     input: &[u32],
     out: &mut [u32],
-) -> u32
-    ensures { λ r. ⌜ SwitchesBatch (switchingWith modulus «base_log» levels n m) (now (key .entry))
-        (now (input .entry)) (now (out .entry)) r (now (out .exit)) ⌝ }
+) -> LweOutcome
+    ensures { λ r. ⌜ Tells outcomeOf (λ x. SwitchesBatch (switchingWith modulus «base_log» levels n m) (now (key .entry))
+        (now (input .entry)) (now (out .entry)) x (now (out .exit))) r ⌝ }
 {
     let params = c_numbers::switching_for(modulus, base_log, levels, n, m);
-    key_switch::key_switch_batch_to(params, key, input, out)
+    c_numbers::outcome(key_switch::key_switch_batch_to(params, key, input, out))
 }

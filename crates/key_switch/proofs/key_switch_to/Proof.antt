@@ -3,7 +3,7 @@ use Prim.Native.Nat.{_+_}
 use borrow.Author.Needs.{needs}
 use lib.ListN.{length}
 use Rattle.scheme.specs.Checks.{refusal}
-use Rattle.scheme.proofs.Order.{refused, done}
+use Rattle.lwe_tag.proofs.Writes.{refused, done}
 use Rattle.scheme.proofs.Switch.{one-switch}
 use Rattle.primus_decompose.specs.Answers.{basis}
 use Rattle.key_switch_key.specs.Answers.{nIn, mIn}
@@ -37,12 +37,12 @@ switch-judged-requires c κs = passed (c .before) .1
 
 returns-2 : tie.Need-returns-2
 returns-2 c =
-    let w = c .before .before in
+    let w = c .before .before .before in
     let e = w .before .before in
     let a = start (e .before) .args in
-    record { writes = done (none e) (w .switch-judged .ensures ∙ one-switch (basis (a .params .basis)) (nIn (a .params)) (mIn (a .params)) (a .key .now) (a .input .now) (passed e .0)) }
+    record { writes = done (none e) (c .none .ensures) (w .switch-judged .ensures ∙ one-switch (basis (a .params .basis)) (nIn (a .params)) (mIn (a .params)) (a .key .now) (a .input .now) (passed e .0)) }
 
 pub key-switch-to-spec : {M : Type 1} → statement M
 key-switch-to-spec =
     tie.close
-    (tie.spec (λ c κs. tt) (λ c κs. tt) (λ c κs. tt) returns switch-judged-requires (λ c. search needs) returns-2)
+    (tie.spec (λ c κs. tt) (λ c κs. tt) (λ c κs. tt) returns switch-judged-requires (λ c κs. tt) (λ c. search needs) returns-2)

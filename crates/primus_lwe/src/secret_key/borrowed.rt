@@ -12,10 +12,13 @@ ghost use Rattle.primus_reduce.specs.Ring.{sizeOf};
 ghost use Rattle.primus_lwe.specs.Key.{keyOf};
 ghost use Rattle.primus_lwe.specs.Answers.{encryptRows, Encrypts, judgedRows, ciphertextRows, TakesPhase};
 use crate::parameter::LweEncryptionParameters;
+use crate::parameter::LwePhaseParameters;
 use crate::secret_key::form;
 use crate::secret_key::form::KeyForm;
 use checks::Values;
 use checks::WordAnswer;
+use lwe_tag::LweAnswer;
+use lwe_tag::LweTag;
 use primus_lattice::LweDimension;
 use primus_reduce::Modulus;
 
@@ -135,7 +138,7 @@ fn encrypt_encoded(
     errors: &[i32],
     plaintext: u32,
     out: &mut [u32],
-) -> u32
+) -> LweAnswer
     ensures { λ r. ⌜ Encrypts params (keyOf form (now (words .entry)) (now (signed .entry))) (now (mask .entry))
         (now (errors .entry)) plaintext (now (out .entry)) r (now (out .exit)) ⌝ }
 {
@@ -150,7 +153,7 @@ fn encrypt_encoded(
         out.len(),
     );
     if r != 0 {
-        return r;
+        return LweAnswer::Refused(r);
     }
     let modulus = params.modulus;
     encrypt_to(
@@ -164,10 +167,10 @@ fn encrypt_encoded(
         plaintext,
         modulus,
     );
-    0
+    LweAnswer::Written(LweTag::with_tally(params.error_limit as u64))
 }
 
-// b = ⟨a, s⟩ + e + p modulo q; out holds (a, b). Refuses by 2, 6, 9, 11, 12, 13, 14, 15.
+// b = ⟨a, s⟩ + e + p modulo q; out holds (a, b), with tally E. Refuses by 2, 6, 9, 11, 12, 13, 14, 15.
 pub fn encrypt_encoded_to(
     params: LweEncryptionParameters,
     secret: &[u32],
@@ -175,7 +178,7 @@ pub fn encrypt_encoded_to(
     errors: &[i32],
     plaintext: u32,
     out: &mut [u32],
-) -> u32
+) -> LweAnswer
     ensures { λ r. ⌜ Encrypts params (Words (now (secret .entry))) (now (mask .entry)) (now (errors .entry)) plaintext
         (now (out .entry)) r (now (out .exit)) ⌝ }
 {
@@ -199,7 +202,7 @@ pub fn encrypt_encoded_signed_to(
     errors: &[i32],
     plaintext: u32,
     out: &mut [u32],
-) -> u32
+) -> LweAnswer
     ensures { λ r. ⌜ Encrypts params (Signed (now (secret .entry))) (now (mask .entry)) (now (errors .entry)) plaintext
         (now (out .entry)) r (now (out .exit)) ⌝ }
 {
@@ -217,7 +220,7 @@ pub fn encrypt_encoded_signed_to(
 
 // What refuses a phase or a decryption; a call without t gives false for 7 and 8.
 pub(crate) fn decrypt_refusal(
-    params: LweEncryptionParameters,
+    params: LwePhaseParameters,
     plaintext: bool,
     small: bool,
     form: KeyForm,
@@ -265,7 +268,7 @@ pub fn phase(
 
 // A phase under a key of either form.
 fn phase_under(
-    params: LweEncryptionParameters,
+    params: LwePhaseParameters,
     form: KeyForm,
     words: &[u32],
     signed: &[i32],
@@ -283,12 +286,8 @@ fn phase_under(
     WordAnswer::Word(phase(form, words, signed, ciphertext, n, modulus))
 }
 
-// b − ⟨a, s⟩ modulo q. Refuses by 2, 6, 9, 10, 13, 14.
-pub fn decrypt_phase(
-    params: LweEncryptionParameters,
-    secret: &[u32],
-    ciphertext: &[u32],
-) -> WordAnswer
+// b − ⟨a, s⟩ modulo q. Refuses by 2, 6, 9, 10, 14.
+pub fn decrypt_phase(params: LwePhaseParameters, secret: &[u32], ciphertext: &[u32]) -> WordAnswer
     ensures { λ r. ⌜ TakesPhase params (Words (now (secret .entry))) (now (ciphertext .entry)) r ⌝ }
 {
     phase_under(params, KeyForm::Words, secret, &[], ciphertext)
@@ -296,7 +295,7 @@ pub fn decrypt_phase(
 
 // decrypt_phase under a signed key.
 pub fn decrypt_phase_signed(
-    params: LweEncryptionParameters,
+    params: LwePhaseParameters,
     secret: &[i32],
     ciphertext: &[u32],
 ) -> WordAnswer

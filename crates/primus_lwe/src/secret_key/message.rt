@@ -4,12 +4,15 @@ ghost use Rattle.scheme.specs.Lwe.{Words, Signed};
 ghost use Rattle.scheme.specs.Checks.{refusal};
 ghost use Rattle.primus_lwe.specs.Key.{keyOf};
 ghost use Rattle.primus_lwe.specs.Answers.{messageRows, EncryptsMessage, Decrypts};
+use crate::parameter::LweDecryptionParameters;
 use crate::parameter::LweParameters;
 use crate::secret_key::borrowed;
 use crate::secret_key::form;
 use crate::secret_key::form::KeyForm;
 use checks::Values;
 use checks::WordAnswer;
+use lwe_tag::LweAnswer;
+use lwe_tag::LweTag;
 use primus_encoding::PlaintextEmbedding;
 use primus_encoding::decode_or_zero;
 use primus_encoding::encode_or_zero;
@@ -55,7 +58,7 @@ fn encrypt_message(
     errors: &[i32],
     message: u32,
     out: &mut [u32],
-) -> u32
+) -> LweAnswer
     ensures { λ r. ⌜ EncryptsMessage params embedding (keyOf form (now (words .entry)) (now (signed .entry)))
         (now (mask .entry)) (now (errors .entry)) message (now (out .entry)) r (now (out .exit)) ⌝ }
 {
@@ -70,11 +73,10 @@ fn encrypt_message(
         out.len(),
     );
     if r != 0 {
-        return r;
+        return LweAnswer::Refused(r);
     }
     let modulus = params.modulus;
-    let t = params.plaintext_modulus;
-    let plaintext = encode_or_zero(t, modulus, message, embedding);
+    let plaintext = encode_or_zero(params.plaintext_modulus, modulus, message, embedding);
     borrowed::encrypt_to(
         out,
         form,
@@ -86,10 +88,10 @@ fn encrypt_message(
         plaintext,
         modulus,
     );
-    0
+    LweAnswer::Written(LweTag::with_tally(params.error_limit as u64))
 }
 
-// An encryption of encode(m). Refuses by 2, 6, 7, 8, 9, 11, 12, 13, 14, 15, 16.
+// An encryption of encode(m), with tally E. Refuses by 2, 6, 7, 8, 9, 11, 12, 13, 14, 15, 16.
 pub fn encrypt_message_to(
     params: LweParameters,
     embedding: PlaintextEmbedding,
@@ -98,7 +100,7 @@ pub fn encrypt_message_to(
     errors: &[i32],
     message: u32,
     out: &mut [u32],
-) -> u32
+) -> LweAnswer
     ensures { λ r. ⌜ EncryptsMessage params embedding (Words (now (secret .entry))) (now (mask .entry))
         (now (errors .entry)) message (now (out .entry)) r (now (out .exit)) ⌝ }
 {
@@ -124,7 +126,7 @@ pub fn encrypt_message_signed_to(
     errors: &[i32],
     message: u32,
     out: &mut [u32],
-) -> u32
+) -> LweAnswer
     ensures { λ r. ⌜ EncryptsMessage params embedding (Signed (now (secret .entry))) (now (mask .entry))
         (now (errors .entry)) message (now (out .entry)) r (now (out .exit)) ⌝ }
 {
@@ -143,7 +145,7 @@ pub fn encrypt_message_signed_to(
 
 // A decryption under a key of either form.
 fn decrypt_under(
-    params: LweParameters,
+    params: LweDecryptionParameters,
     form: KeyForm,
     words: &[u32],
     signed: &[i32],
@@ -156,16 +158,8 @@ fn decrypt_under(
     let t = params.plaintext_modulus;
     let plaintext = checks::plaintext_refused(t);
     let small = checks::small_refused(t, modulus);
-    let encryption = params.encryption_parameters();
-    let r = borrowed::decrypt_refusal(
-        encryption,
-        plaintext,
-        small,
-        form,
-        words,
-        signed,
-        ciphertext,
-    );
+    let phases = params.phase_parameters();
+    let r = borrowed::decrypt_refusal(phases, plaintext, small, form, words, signed, ciphertext);
     if r != 0 {
         return WordAnswer::Refused(r);
     }
@@ -174,8 +168,12 @@ fn decrypt_under(
     WordAnswer::Word(decode_or_zero(t, modulus, p))
 }
 
-// decode of the phase. Refuses by 2, 6, 7, 8, 9, 10, 13, 14.
-pub fn decrypt_message(params: LweParameters, secret: &[u32], ciphertext: &[u32]) -> WordAnswer
+// decode of the phase. Refuses by 2, 6, 7, 8, 9, 10, 14.
+pub fn decrypt_message(
+    params: LweDecryptionParameters,
+    secret: &[u32],
+    ciphertext: &[u32],
+) -> WordAnswer
     ensures { λ r. ⌜ Decrypts params (Words (now (secret .entry))) (now (ciphertext .entry)) r ⌝ }
 {
     decrypt_under(params, KeyForm::Words, secret, &[], ciphertext)
@@ -183,7 +181,7 @@ pub fn decrypt_message(params: LweParameters, secret: &[u32], ciphertext: &[u32]
 
 // decrypt_message under a signed key.
 pub fn decrypt_message_signed(
-    params: LweParameters,
+    params: LweDecryptionParameters,
     secret: &[i32],
     ciphertext: &[u32],
 ) -> WordAnswer

@@ -4,7 +4,7 @@ use borrow.Author.Needs.{needs}
 use lib.ListN.{length}
 use Rattle.scheme.specs.Switch.{switchedBatch}
 use Rattle.scheme.specs.Checks.{refusal}
-use Rattle.scheme.proofs.Order.{refused, done}
+use Rattle.lwe_tag.proofs.Writes.{refused, done}
 use Rattle.primus_decompose.specs.Answers.{basis}
 use Rattle.key_switch_key.specs.Answers.{nIn, mIn}
 use Rattle.key_switch.specs.Answers.{batchRows}
@@ -44,17 +44,17 @@ switch-judged-requires c κs =
 
 returns-2 : tie.Need-returns-2
 returns-2 c =
-    let w = c .before .before in
+    let w = c .before .before .before in
     let e = w .before .before in
     let k = e .before .before .before .before in
     let a = start k .args in
     record {
       writes =
-          done (none e)
+          done (none e) (c .none .ensures)
           (w .switch-judged .ensures ∙ ap (λ n. switchedBatch (basis (a .params .basis)) (nIn (a .params)) (mIn (a .params)) (a .key .now) n (a .input .now)) (count-is k));
     }
 
 pub key-switch-batch-to-spec : {M : Type 1} → statement M
 key-switch-batch-to-spec =
     tie.close
-    (tie.spec (λ c κs. tt) (λ c κs. tt) (λ c κs. tt) (λ c κs. tt) (λ c κs. tt) (λ c κs. tt) returns switch-judged-requires (λ c. search needs) returns-2)
+    (tie.spec (λ c κs. tt) (λ c κs. tt) (λ c κs. tt) (λ c κs. tt) (λ c κs. tt) (λ c κs. tt) returns switch-judged-requires (λ c κs. tt) (λ c. search needs) returns-2)

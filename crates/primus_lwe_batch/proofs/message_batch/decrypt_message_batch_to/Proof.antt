@@ -23,7 +23,7 @@ number c =
     let a = start c .args in
     let p = c .before in
     c .decrypt-refusal .ensures
-    ∙ judged-with (λ m n. batchRows m n (Words (a .secret .now)) (a .input .now) (length (a .out .now))) (a .params) (p .encryption-parameters .ensures) (p .before .before .plaintext-refused .ensures) (p .before .small-refused .ensures)
+    ∙ judged-with (λ m n. batchRows m n (Words (a .secret .now)) (a .input .now) (length (a .out .now))) (a .params) (p .phase-parameters .ensures) (p .before .before .plaintext-refused .ensures) (p .before .small-refused .ensures)
 
 ready : (c : tie.Else1) → let a = start (c .before) .args in Decryptable (a .params) (length (a .secret .now)) (length (a .input .now)) (length (a .out .now))
 ready c =

@@ -18,7 +18,7 @@ start c = c .before .before .before .before .before
 
 ready : (c : tie.Else1) → let a = start c .args in
     Phasable (sizeOf (a .params .modulus)) (a .params .dimension .0) (length (a .secret .now)) (length (a .input .now)) (length (a .out .now))
-    × Codable (a .params)
+    × Codable (a .params .«plaintext_modulus») (a .params .modulus)
 ready c =
     let a = start c .args in
     decryptable (a .params) (a .secret .now) (a .input .now) _ (sym (c .before .packed-decrypt-refusal .ensures) ∙ c .if1 .left)

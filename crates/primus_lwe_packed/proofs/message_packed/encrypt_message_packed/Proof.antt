@@ -1,7 +1,7 @@
 use mathlib.Core.Path.{_≡_, sym, _∙_}
 use borrow.Author.Needs.{needs}
 use lib.ListN.{length}
-use Rattle.scheme.proofs.Order.{refused, done}
+use Rattle.lwe_tag.proofs.Writes.{refused, done}
 use Rattle.primus_lwe_packed.proofs.Laws.{PackedMessages, packable-messages}
 use Rattle.primus_lwe_packed.proofs.message_packed.encrypt_message_packed.Statement.{statement}
 use Rattle.primus_lwe_packed.proofs.message_packed.encrypt_message_packed.Tie as tie
@@ -23,9 +23,9 @@ write-packed-requires c κs = let r = ready (c .before) .plain in (r .able, r .f
 
 returns-2 : tie.Need-returns-2
 returns-2 c =
-    let w = c .before .before in
+    let w = c .before .before .before in
     let e = w .before .before in
-    record { writes = done (sym (e .before .packed-message-refusal .ensures) ∙ e .if1 .left) (w .write-packed .ensures ∙ ready e .encodes (start e .args .embedding)) }
+    record { writes = done (sym (e .before .packed-message-refusal .ensures) ∙ e .if1 .left) (c .none .ensures) (w .write-packed .ensures ∙ ready e .encodes (start e .args .embedding)) }
 
 pub encrypt-message-packed-spec : {M : Type 1} → statement M
-encrypt-message-packed-spec = tie.close (tie.spec (λ c κs. tt) returns write-packed-requires (λ c. search needs) returns-2)
+encrypt-message-packed-spec = tie.close (tie.spec (λ c κs. tt) returns write-packed-requires (λ c κs. tt) (λ c. search needs) returns-2)

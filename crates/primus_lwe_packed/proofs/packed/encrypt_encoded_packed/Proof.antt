@@ -2,7 +2,7 @@ use mathlib.Core.Path.{_≡_, sym, ap, _∙_}
 use borrow.Author.Needs.{needs}
 use lib.ListN.{length}
 use Rattle.scheme.specs.Lwe.{words, signed, packed}
-use Rattle.scheme.proofs.Order.{refused, done}
+use Rattle.lwe_tag.proofs.Writes.{refused, done}
 use Rattle.primus_reduce.specs.Ring.{sizeOf}
 use Rattle.primus_lwe_packed.proofs.Laws.{Packed, packable}
 use Rattle.primus_lwe_packed.proofs.packed.encrypt_encoded_packed.Statement.{statement}
@@ -25,16 +25,16 @@ write-packed-requires c κs = let r = ready (c .before) in (r .able, r .fits)
 
 returns-2 : tie.Need-returns-2
 returns-2 c =
-    let w = c .before .before in
+    let w = c .before .before .before in
     let e = w .before .before in
     let a = start e .args in
     record {
       writes =
-          done (sym (e .before .packed-refusal .ensures) ∙ e .if1 .left)
+          done (sym (e .before .packed-refusal .ensures) ∙ e .if1 .left) (c .none .ensures)
           (w .write-packed .ensures
           ∙ ap (λ n. packed (sizeOf (a .params .modulus)) n (length (a .plaintexts .now)) (a .mask .now) (words (a .secret .now)) (signed (a .errors .now)) (words (a .plaintexts .now)))
           (ready e .each));
     }
 
 pub encrypt-encoded-packed-spec : {M : Type 1} → statement M
-encrypt-encoded-packed-spec = tie.close (tie.spec (λ c κs. tt) returns write-packed-requires (λ c. search needs) returns-2)
+encrypt-encoded-packed-spec = tie.close (tie.spec (λ c κs. tt) returns write-packed-requires (λ c κs. tt) (λ c. search needs) returns-2)

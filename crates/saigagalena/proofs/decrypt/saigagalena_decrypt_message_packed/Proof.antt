@@ -4,7 +4,7 @@ use Rattle.saigagalena.proofs.decrypt.saigagalena_decrypt_message_packe
 use Rattle.saigagalena.proofs.decrypt.saigagalena_decrypt_message_packed.Tie as tie
 
 returns : tie.Need-returns
-returns c = let w = c .before .before in decrypts-packed-of (w .before .before .messages-for .ensures) (w .decrypt-message-packed .ensures)
+returns c = let w = c .before .before in decrypts-packed-of (w .before .before .decryption-for .ensures) (w .decrypt-message-packed .ensures)
 
 pub saigagalena-decrypt-message-packed-spec : {M : Type 1} → statement M
 saigagalena-decrypt-message-packed-spec = tie.close (tie.spec (λ c κs. tt) (λ c κs. tt) (λ c. search needs) returns)

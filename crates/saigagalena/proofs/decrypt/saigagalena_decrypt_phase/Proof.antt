@@ -5,7 +5,7 @@ use Rattle.saigagalena.proofs.decrypt.saigagalena_decrypt_phase.Tie as 
 returns : tie.Need-returns
 returns c =
     let w = c .before in
-    record { answer = w .decrypt-phase .result; kept = takes-phase-of (w .before .encryption-for .ensures) (w .decrypt-phase .ensures); told = c .word-number .ensures }
+    record { answer = w .decrypt-phase .result; kept = takes-phase-of (w .before .phases-for .ensures) (w .decrypt-phase .ensures); told = c .word-number .ensures }
 
 pub saigagalena-decrypt-phase-spec : {M : Type 1} → statement M
 saigagalena-decrypt-phase-spec = tie.close (tie.spec (λ c κs. tt) (λ c κs. tt) (λ c κs. tt) returns)

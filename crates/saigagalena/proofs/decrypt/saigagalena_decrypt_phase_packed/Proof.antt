@@ -4,7 +4,7 @@ use Rattle.saigagalena.proofs.decrypt.saigagalena_decrypt_phase_packed.
 use Rattle.saigagalena.proofs.decrypt.saigagalena_decrypt_phase_packed.Tie as tie
 
 returns : tie.Need-returns
-returns c = let w = c .before .before in takes-packed-phases-of (w .before .before .encryption-for .ensures) (w .decrypt-phase-packed .ensures)
+returns c = let w = c .before .before in takes-packed-phases-of (w .before .before .phases-for .ensures) (w .decrypt-phase-packed .ensures)
 
 pub saigagalena-decrypt-phase-packed-spec : {M : Type 1} → statement M
 saigagalena-decrypt-phase-packed-spec = tie.close (tie.spec (λ c κs. tt) (λ c κs. tt) (λ c. search needs) returns)

@@ -5,7 +5,7 @@ use Rattle.saigagalena.proofs.decrypt.saigagalena_decrypt_phase_signed.
 returns : tie.Need-returns
 returns c =
     let w = c .before in
-    record { answer = w .decrypt-phase-signed .result; kept = takes-phase-of (w .before .encryption-for .ensures) (w .decrypt-phase-signed .ensures); told = c .word-number .ensures }
+    record { answer = w .decrypt-phase-signed .result; kept = takes-phase-of (w .before .phases-for .ensures) (w .decrypt-phase-signed .ensures); told = c .word-number .ensures }
 
 pub saigagalena-decrypt-phase-signed-spec : {M : Type 1} → statement M
 saigagalena-decrypt-phase-signed-spec = tie.close (tie.spec (λ c κs. tt) (λ c κs. tt) (λ c κs. tt) returns)

@@ -4,7 +4,9 @@ use Rattle.saigagalena.proofs.encrypt.saigagalena_encrypt_encoded_packe
 use Rattle.saigagalena.proofs.encrypt.saigagalena_encrypt_encoded_packed.Tie as tie
 
 returns : tie.Need-returns
-returns c = let w = c .before .before in encrypts-packed-of (w .before .before .encryption-for .ensures) (w .encrypt-encoded-packed .ensures)
+returns c =
+    let w = c .before .before .before in
+    record { answer = w .encrypt-encoded-packed .result; kept = encrypts-packed-of (w .before .before .encryption-for .ensures) (w .encrypt-encoded-packed .ensures); told = c .outcome .ensures }
 
 pub saigagalena-encrypt-encoded-packed-spec : {M : Type 1} → statement M
-saigagalena-encrypt-encoded-packed-spec = tie.close (tie.spec (λ c κs. tt) (λ c κs. tt) (λ c. search needs) returns)
+saigagalena-encrypt-encoded-packed-spec = tie.close (tie.spec (λ c κs. tt) (λ c κs. tt) (λ c κs. tt) (λ c. search needs) returns)

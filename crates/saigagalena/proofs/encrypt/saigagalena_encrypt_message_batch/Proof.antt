@@ -5,9 +5,9 @@ use Rattle.saigagalena.proofs.encrypt.saigagalena_encrypt_message_batch
 
 returns : tie.Need-returns
 returns c =
-    let w = c .before .before in
+    let w = c .before .before .before in
     let g = w .before .before in
-    encrypts-batch-of (g .before .messages-for .ensures) (g .embedding-for .ensures) (w .encrypt-message-batch-to .ensures)
+    record { answer = w .encrypt-message-batch-to .result; kept = encrypts-batch-of (g .before .messages-for .ensures) (g .embedding-for .ensures) (w .encrypt-message-batch-to .ensures); told = c .outcome .ensures }
 
 pub saigagalena-encrypt-message-batch-spec : {M : Type 1} → statement M
-saigagalena-encrypt-message-batch-spec = tie.close (tie.spec (λ c κs. tt) (λ c κs. tt) (λ c κs. tt) (λ c. search needs) returns)
+saigagalena-encrypt-message-batch-spec = tie.close (tie.spec (λ c κs. tt) (λ c κs. tt) (λ c κs. tt) (λ c κs. tt) (λ c. search needs) returns)

@@ -5,9 +5,9 @@ use Rattle.saigagalena.proofs.encrypt.saigagalena_encrypt_message_packe
 
 returns : tie.Need-returns
 returns c =
-    let w = c .before .before in
+    let w = c .before .before .before in
     let g = w .before .before in
-    encrypts-packed-messages-of (g .before .messages-for .ensures) (g .embedding-for .ensures) (w .encrypt-message-packed .ensures)
+    record { answer = w .encrypt-message-packed .result; kept = encrypts-packed-messages-of (g .before .messages-for .ensures) (g .embedding-for .ensures) (w .encrypt-message-packed .ensures); told = c .outcome .ensures }
 
 pub saigagalena-encrypt-message-packed-spec : {M : Type 1} → statement M
-saigagalena-encrypt-message-packed-spec = tie.close (tie.spec (λ c κs. tt) (λ c κs. tt) (λ c κs. tt) (λ c. search needs) returns)
+saigagalena-encrypt-message-packed-spec = tie.close (tie.spec (λ c κs. tt) (λ c κs. tt) (λ c κs. tt) (λ c κs. tt) (λ c. search needs) returns)

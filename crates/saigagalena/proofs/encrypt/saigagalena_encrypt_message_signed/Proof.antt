@@ -5,9 +5,9 @@ use Rattle.saigagalena.proofs.encrypt.saigagalena_encrypt_message_signe
 
 returns : tie.Need-returns
 returns c =
-    let w = c .before .before in
+    let w = c .before .before .before in
     let g = w .before .before in
-    encrypts-message-of (g .before .messages-for .ensures) (g .embedding-for .ensures) (w .encrypt-message-signed-to .ensures)
+    record { answer = w .encrypt-message-signed-to .result; kept = encrypts-message-of (g .before .messages-for .ensures) (g .embedding-for .ensures) (w .encrypt-message-signed-to .ensures); told = c .outcome .ensures }
 
 pub saigagalena-encrypt-message-signed-spec : {M : Type 1} → statement M
-saigagalena-encrypt-message-signed-spec = tie.close (tie.spec (λ c κs. tt) (λ c κs. tt) (λ c κs. tt) (λ c. search needs) returns)
+saigagalena-encrypt-message-signed-spec = tie.close (tie.spec (λ c κs. tt) (λ c κs. tt) (λ c κs. tt) (λ c κs. tt) (λ c. search needs) returns)

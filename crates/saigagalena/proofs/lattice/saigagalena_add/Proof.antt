@@ -5,9 +5,9 @@ use Rattle.saigagalena.proofs.lattice.saigagalena_add.Tie as tie
 
 returns : tie.Need-returns
 returns c =
-    let w = c .before .before in
+    let w = c .before .before .before in
     let g = w .before .before in
-    adds-of (g .before .from-number .ensures) (g .given .ensures) (w .add-assign .ensures)
+    record { answer = w .add-assign .result; kept = adds-of (g .before .from-number .ensures) (g .given .ensures) (w .add-assign .ensures); told = c .outcome .ensures }
 
 pub saigagalena-add-spec : {M : Type 1} → statement M
-saigagalena-add-spec = tie.close (tie.spec (λ c κs. tt) (λ c κs. tt) (λ c κs. tt) (λ c. search needs) returns)
+saigagalena-add-spec = tie.close (tie.spec (λ c κs. tt) (λ c κs. tt) (λ c κs. tt) (λ c κs. tt) (λ c. search needs) returns)

@@ -5,9 +5,9 @@ use Rattle.saigagalena.proofs.public_key.saigagalena_public_key_encrypt
 
 returns : tie.Need-returns
 returns c =
-    let w = c .before .before in
+    let w = c .before .before .before in
     let g = w .before .before in
-    encrypts-public-message-of (g .before .messages-for .ensures) (g .embedding-for .ensures) (w .encrypt-message-to .ensures)
+    record { answer = w .encrypt-message-to .result; kept = encrypts-public-message-of (g .before .messages-for .ensures) (g .embedding-for .ensures) (w .encrypt-message-to .ensures); told = c .outcome .ensures }
 
 pub saigagalena-public-key-encrypt-message-spec : {M : Type 1} → statement M
-saigagalena-public-key-encrypt-message-spec = tie.close (tie.spec (λ c κs. tt) (λ c κs. tt) (λ c κs. tt) (λ c. search needs) returns)
+saigagalena-public-key-encrypt-message-spec = tie.close (tie.spec (λ c κs. tt) (λ c κs. tt) (λ c κs. tt) (λ c κs. tt) (λ c. search needs) returns)

@@ -4,7 +4,9 @@ use Rattle.saigagalena.proofs.switch.saigagalena_key_switch.Statement.{
 use Rattle.saigagalena.proofs.switch.saigagalena_key_switch.Tie as tie
 
 returns : tie.Need-returns
-returns c = let w = c .before .before in switches-of (w .before .before .switching-for .ensures) (w .key-switch-to .ensures)
+returns c =
+    let w = c .before .before .before in
+    record { answer = w .key-switch-to .result; kept = switches-of (w .before .before .switching-for .ensures) (w .key-switch-to .ensures); told = c .outcome .ensures }
 
 pub saigagalena-key-switch-spec : {M : Type 1} → statement M
-saigagalena-key-switch-spec = tie.close (tie.spec (λ c κs. tt) (λ c κs. tt) (λ c. search needs) returns)
+saigagalena-key-switch-spec = tie.close (tie.spec (λ c κs. tt) (λ c κs. tt) (λ c κs. tt) (λ c. search needs) returns)

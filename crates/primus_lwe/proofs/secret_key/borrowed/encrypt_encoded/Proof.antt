@@ -3,7 +3,7 @@ use borrow.Author.Needs.{needs}
 use lib.IntN.{pos}
 use lib.ListN.{length, getD}
 use Rattle.scheme.specs.Lwe.{secretOf, encrypted}
-use Rattle.scheme.proofs.Order.{refused, done}
+use Rattle.lwe_tag.proofs.Writes.{refused, done}
 use Rattle.primus_reduce.specs.Ring.{sizeOf}
 use Rattle.primus_lwe.specs.Key.{keyOf}
 use Rattle.primus_lwe.proofs.Laws.{Encryptable, encryptable}
@@ -27,16 +27,16 @@ encrypt-to-requires c κs = let r = ready (c .before) in (r .positive, r .fits)
 
 returns-2 : tie.Need-returns-2
 returns-2 c =
-    let w = c .before .before in
+    let w = c .before .before .before .before in
     let e = w .before .before in
     let a = start e .args in
     record {
       writes =
-          done (sym (e .before .encrypt-refusal .ensures) ∙ e .if1 .left)
+          done (sym (e .before .encrypt-refusal .ensures) ∙ e .if1 .left) (c .with-tally .ensures)
           (w .encrypt-to .ensures
           ∙ ap (λ n. encrypted (sizeOf (a .params .modulus)) n (a .mask .now) (secretOf (keyOf (a .form) (a .words .now) (a .signed .now))) (getD (a .errors .now) 0 (pos 0)) (pos (a .plaintext)))
           (ready e .each));
     }
 
 pub encrypt-encoded-spec : {M : Type 1} → statement M
-encrypt-encoded-spec = tie.close (tie.spec (λ c κs. tt) returns encrypt-to-requires (λ c. search needs) returns-2)
+encrypt-encoded-spec = tie.close (tie.spec (λ c κs. tt) returns encrypt-to-requires (λ c. search needs) (λ c κs. tt) (λ c. search needs) returns-2)

@@ -23,7 +23,7 @@ number c =
     let p = c .before in
     let a = p .before .before .before .before .before .args in
     c .decrypt-refusal .ensures
-    ∙ judged-with (λ m n. ciphertextRows m n (keyOf (a .form) (a .words .now) (a .signed .now)) (a .ciphertext .now)) (a .params) (p .encryption-parameters .ensures) (p .before .before .plaintext-refused .ensures) (p .before .small-refused .ensures)
+    ∙ judged-with (λ m n. ciphertextRows m n (keyOf (a .form) (a .words .now) (a .signed .now)) (a .ciphertext .now)) (a .params) (p .phase-parameters .ensures) (p .before .before .plaintext-refused .ensures) (p .before .small-refused .ensures)
 
 ready : (c : tie.Else1) → let a = start c .args in
     Decryptable (a .params) (keyLength (keyOf (a .form) (a .words .now) (a .signed .now))) (length (a .ciphertext .now))
@@ -52,7 +52,7 @@ returns-2 c =
       is =
           given _ _ _ _ (sym (number (e .before)) ∙ e .if1 .left)
           (ap Word
-          (decoded-is (a .params) (r .codec) _ (phase-below _ _ _ _ _ (r .phases .positive) phase) (c .decode-or-zero .ensures)
+          (decoded-is (a .params .«plaintext_modulus») (a .params .modulus) (r .codec) _ (phase-below _ _ _ _ _ (r .phases .positive) phase) (c .decode-or-zero .ensures)
           ∙ ap (decode (sizeOf (a .params .modulus)) (a .params .«plaintext_modulus»)) phase));
     }
 

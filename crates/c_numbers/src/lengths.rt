@@ -1,0 +1,70 @@
+// How many words a caller allocates, or the first number that applies.
+ghost use mathlib.Core.Path.{_≡_};
+ghost use Prim.Native.Nat.{_+_, _*_};
+ghost use Rattle.scheme.specs.Checks.{refusal};
+ghost use Rattle.checks.specs.Answers.{wordAnswer};
+ghost use Rattle.key_switch_key.specs.Answers.{parameterRows, keyWords};
+ghost use Rattle.c_numbers.specs.Lengths.{packedRows};
+use checks::Sizes;
+use checks::WordAnswer;
+use key_switch_key::LweKeySwitchingParameters;
+use primus_lattice::LweDimension;
+
+// 6, and 10 for more than n bodies.
+fn packed_refusal(n: usize, count: usize) -> u32
+    ensures { λ r. ⌜ r ≡ refusal (packedRows n count) ⌝ }
+{
+    let dimension = LweDimension::given(n);
+    let mut s = Sizes::NONE;
+    s.dimension = dimension.refused();
+    s.input = n < count;
+    s.first()
+}
+
+// A ciphertext. Refuses by 6.
+pub fn ciphertext_words(n: usize) -> WordAnswer
+    ensures { λ r. ⌜ r ≡ wordAnswer (packedRows n 0) (n + 1) ⌝ }
+{
+    let r = packed_refusal(n, 0);
+    if r != 0 {
+        return WordAnswer::Refused(r);
+    }
+    WordAnswer::Word((n + 1) as u32)
+}
+
+// A packed ciphertext with `count` bodies. Refuses by 6, 10.
+pub fn packed_words(n: usize, count: usize) -> WordAnswer
+    ensures { λ r. ⌜ r ≡ wordAnswer (packedRows n count) (n + count) ⌝ }
+{
+    let r = packed_refusal(n, count);
+    if r != 0 {
+        return WordAnswer::Refused(r);
+    }
+    WordAnswer::Word((n + count) as u32)
+}
+
+// A public key. Refuses by 6.
+pub fn public_key_words(n: usize) -> WordAnswer
+    ensures { λ r. ⌜ r ≡ wordAnswer (packedRows n 0) (n * (n + 1)) ⌝ }
+{
+    let r = packed_refusal(n, 0);
+    if r != 0 {
+        return WordAnswer::Refused(r);
+    }
+    WordAnswer::Word((n * (n + 1)) as u32)
+}
+
+// A switching key. Refuses by 1 to 6.
+pub fn switching_key_words(params: LweKeySwitchingParameters) -> WordAnswer
+    ensures { λ r. ⌜ r ≡ wordAnswer (parameterRows params) (keyWords params) ⌝ }
+{
+    let s = params.sizes();
+    let r = s.first();
+    if r != 0 {
+        return WordAnswer::Refused(r);
+    }
+    let n = params.input_dimension;
+    let m = params.output_dimension;
+    let entries = n.get() * params.level_count();
+    WordAnswer::Word((entries * (m.get() + 1)) as u32)
+}
