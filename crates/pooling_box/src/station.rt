@@ -7,6 +7,7 @@ use key_switch_key::LweKeySwitchingParameters;
 use key_switch_key::LweKeySwitchingParametersAnswer;
 use pooling::PoolParameters;
 use pooling::add_saved;
+use pooling::begin_saved;
 use primus_decompose::ApproxSignedBasis;
 use primus_lattice::LweDimension;
 use primus_lattice::LweTag;
@@ -21,9 +22,24 @@ fn digit(number: u32) -> u8 {
     (48 + number % 10) as u8
 }
 
-// A shop's row goes into the total whole, or not at all: 1 where it does.
+// The first row that is accepted is the total, and the others are added to it.
+fn add_row(
+    params: PoolParameters,
+    rows: u32,
+    bytes: &[u8],
+    total: &mut [u32],
+    tallies: &mut [u64],
+) -> u32 {
+    if rows == 0 {
+        return begin_saved(params, bytes, total, tallies);
+    }
+    add_saved(params, bytes, total, tallies)
+}
+
+// A shop's row goes into the total of `rows` rows whole, or not at all: how many there are then.
 fn add_shop(
     params: PoolParameters,
+    rows: u32,
     name: &[u8],
     bytes: &mut [u8],
     total: &mut [u32],
@@ -31,12 +47,12 @@ fn add_shop(
 ) -> u32 {
     let f = programs::read_file(name, bytes);
     let len = f.len;
-    let r = add_saved(params, &bytes[0..len], total, tallies);
+    let r = add_row(params, rows, &bytes[0..len], total, tallies);
     reasons::told_file(name, r, saved_files::stored_as(f.opened, &bytes[0..len]));
     if r == 0 {
-        return 1;
+        return std::num::wrapping_add_u32(rows, 1);
     }
-    0
+    rows
 }
 
 // How many of the shops' rows were added.
@@ -49,20 +65,19 @@ fn add_shops(
     let mut rows = 0;
     for number in 1..10 {
         let name = [b's', b'h', b'o', b'p', b'_', digit(number)];
-        let added = add_shop(params, &name, bytes, total, tallies);
-        rows = std::num::wrapping_add_u32(rows, added);
+        rows = add_shop(params, rows, &name, bytes, total, tallies);
     }
     rows
 }
 
 // Document 01's mark of one place. It counts one rounding, however many rows were added.
-fn print_mark(place: u64, tally: Tally, modulus: Modulus) {
+fn print_mark(place: u64, number: u64, modulus: Modulus) {
+    let tag = LweTag::with_tally(number);
     programs::print(b"  casting ", place);
-    match tally {
+    match tag.tally() {
         Tally::Absent => programs::write(b": no tally"),
         Tally::Present(a) => programs::print(b": tally ", a),
     }
-    let tag = LweTag::from_tally(tally);
     match tag.is_good(modulus, PLAINTEXT_MODULUS) {
         MarkAnswer::Mark(good) => print_good(good),
         MarkAnswer::Refused(r) => reasons::refused(r),
@@ -78,10 +93,10 @@ fn print_good(good: bool) {
 }
 
 fn print_marks(tallies: [u64; 4], modulus: Modulus) {
-    print_mark(1, Tally::from_number(tallies[0]), modulus);
-    print_mark(2, Tally::from_number(tallies[1]), modulus);
-    print_mark(3, Tally::from_number(tallies[2]), modulus);
-    print_mark(4, Tally::from_number(tallies[3]), modulus);
+    print_mark(1, tallies[0], modulus);
+    print_mark(2, tallies[1], modulus);
+    print_mark(3, tallies[2], modulus);
+    print_mark(4, tallies[3], modulus);
 }
 
 // Adds the rows and prints the marks; how many rows were added.

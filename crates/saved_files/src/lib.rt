@@ -1,5 +1,5 @@
 // Saved files, read whole into rooms that the caller lends.
-use primus_lattice::Tally;
+use lwe_tag::LweTag;
 use saved::Head;
 
 // The programs take files of at most 65,536 bytes. A room has one byte more: no whole file has that length, so a longer
@@ -13,12 +13,12 @@ pub enum Stored {
     Whole,
 }
 
-// A file's refusal and why, its head, the tally of its first ciphertext, and the checksum of its bytes.
+// A file's refusal and why, its head, the tag of its first ciphertext, and the checksum of its bytes.
 pub struct Loaded {
     pub refusal: u32,
     pub stored: Stored,
     pub head: Head,
-    pub tally: Tally,
+    pub tag: LweTag,
     pub checksum: u32,
 }
 
@@ -49,12 +49,12 @@ pub fn stored_as(opened: bool, bytes: &[u8]) -> Stored {
 fn judged(opened: bool, bytes: &[u8]) -> Loaded {
     let stored = stored_as(opened, bytes);
     let head = saved::head_of(bytes);
-    let tally = saved::tally_at(bytes, 0);
+    let tag = saved::tag_at(bytes, 0);
     Loaded {
         refusal: saved::file_refusal(bytes),
         stored,
         head,
-        tally,
+        tag,
         checksum: checksum(bytes),
     }
 }
