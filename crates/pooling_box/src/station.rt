@@ -9,6 +9,7 @@ use pooling::PoolParameters;
 use pooling::add_saved;
 use pooling::begin_saved;
 use primus_decompose::ApproxSignedBasis;
+use primus_lattice::LweAnswer;
 use primus_lattice::LweDimension;
 use primus_lattice::LweTag;
 use primus_lattice::MarkAnswer;
@@ -132,12 +133,13 @@ fn serve(
         return 0;
     }
     programs::write(b"the box switches the total to the group's key and sends it on\n");
-    let r = key_switch_batch_to(params, key, total, sent);
-    if r != 0 {
-        reasons::told(b"the switch", r);
-        return 0;
+    match key_switch_batch_to(params, key, total, sent) {
+        LweAnswer::Written(_) => sent.len(),
+        LweAnswer::Refused(r) => {
+            reasons::told(b"the switch", r);
+            0
+        }
     }
-    sent.len()
 }
 
 // The words of four ciphertexts. A dimension above 2,048 is refused before.

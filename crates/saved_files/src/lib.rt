@@ -2,8 +2,8 @@
 use lwe_tag::LweTag;
 use saved::Head;
 
-// The programs take files of at most 65,536 bytes. A room has one byte more: no whole file has that length, so a longer
-// one is refused too.
+// The programs take files of at most 65,536 bytes. A room has one byte more: no whole file has that length, so a
+// longer one is refused too (odd-length of saved).
 pub const ROOM: usize = 65537;
 
 // What stands under a name: nothing that can be opened, bytes that are no whole file, or a whole one.
