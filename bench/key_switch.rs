@@ -163,6 +163,7 @@ impl Case {
                 self.ours.as_mut_ptr(),
                 self.ours.len(),
             )
+            .refusal
         }
     }
 

@@ -46,7 +46,8 @@ static double now(void)
 static uint32_t whole(struct job *j)
 {
     return saigagalena_key_switch_batch(j->modulus, BASE_LOG, 0, j->n, j->m, j->key, j->key_len, j->input, j->input_len, j->out,
-                                        j->out_len);
+                                        j->out_len)
+        .refusal;
 }
 
 static uint32_t checks(struct job *j)
@@ -56,7 +57,8 @@ static uint32_t checks(struct job *j)
 
     *last = UINT32_MAX;
     uint32_t answer = saigagalena_key_switch_batch(j->modulus, BASE_LOG, 0, j->n, j->m, j->key, j->key_len, j->input, j->input_len,
-                                                   j->out, j->out_len - shorter);
+                                                   j->out, j->out_len - shorter)
+                          .refusal;
     *last = good;
     return answer;
 }

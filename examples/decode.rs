@@ -4,7 +4,7 @@
 #[path = "../include/saigagalena.rs"]
 mod saigagalena;
 
-use saigagalena::{REFUSED, saigagalena_decode, saigagalena_encode};
+use saigagalena::{REFUSED, VERSION, saigagalena_decode, saigagalena_encode, saigagalena_version};
 
 const NATIVE: u32 = 0;
 const T: u32 = 16;
@@ -24,6 +24,7 @@ fn decode(word: u32) -> Result<u32, u64> {
 }
 
 fn main() -> Result<(), u64> {
+    assert_eq!(unsafe { saigagalena_version() }, VERSION);
     let sum = encode(3)?.wrapping_add(encode(4)?);
     let total = decode(sum)?;
     println!("3 + 4 opens to {total}; 16 is refused by {}", encode(16).unwrap_err());

@@ -89,9 +89,9 @@ impl Kind {
                 Decode | DecodeSlice | Message | MessageSigned | MessageBatch | MessagePacked
             )
     }
-    /// An error bound E.
+    /// An error bound E, and lent errors within it.
     pub fn has_bound(self) -> bool {
-        self.has_dimension() && !matches!(self, Extract | Switch | SwitchBatch)
+        self.has_dimension() && !self.opens() && !matches!(self, Extract | Switch | SwitchBatch)
     }
     /// The secret is signed numbers.
     pub fn is_signed(self) -> bool {
@@ -110,7 +110,7 @@ impl Kind {
         matches!(self, PublicEncoded | PublicMessage | Switch | SwitchBatch)
     }
     pub fn has_secret(self) -> bool {
-        self.has_bound() && !self.has_key()
+        (self.has_bound() || self.opens()) && !self.has_key()
     }
     /// Phases and messages of ciphertexts.
     pub fn opens(self) -> bool {
@@ -125,10 +125,6 @@ impl Kind {
                 | PhasePacked
                 | MessagePacked
         )
-    }
-    /// Lent errors.
-    pub fn has_errors(self) -> bool {
-        self.has_bound() && !self.opens()
     }
     /// The input is one number.
     pub fn takes_one_number(self) -> bool {

@@ -260,6 +260,19 @@ fn number_checks(call: &Call) -> Vec<(Check, bool)> {
     ]
 }
 
+/// 2^64 − 1, as the C calls have it.
+pub const NO_TALLY: u64 = u64::MAX;
+
+/// "A fresh single secret-key ciphertext has tally E; a public-key, packed or switched one has none." What is no ciphertext has none.
+pub fn tally(call: &Call) -> u64 {
+    use Kind::*;
+    match call.kind {
+        EncryptEncoded | EncryptEncodedSigned | EncryptMessage | EncryptMessageSigned
+        | EncryptMessageBatch => call.bound as u64,
+        _ => NO_TALLY,
+    }
+}
+
 /// All checks that apply, in 01's order: the first gives the number.
 pub fn applying(call: &Call) -> Vec<Check> {
     let kind = call.kind;

@@ -68,12 +68,27 @@ pub fn answers(proved: Said, rust: Said) -> Outcome {
     }
 }
 
-pub fn compare(call: &Call) -> Outcome {
-    let checks = checks::applying(call);
-    let proved = proved::said(call);
-    if checks.is_empty() {
-        answers(proved, rust::said(call))
+/// The tally that the library told against the rule; a refused call has none.
+pub fn tallies(call: &Call, told: u64, rule: impl Fn(&Call) -> u64) -> Option<Outcome> {
+    let refused = !checks::applying(call).is_empty();
+    let tally = if refused {
+        checks::NO_TALLY
     } else {
-        refusals(call, checks, proved, rust::said)
+        rule(call)
+    };
+    (told != tally)
+        .then(|| Outcome::Differs(format!("01's tally is {tally}, the library's {told}")))
+}
+
+pub fn compare(call: &Call) -> Outcome {
+    let proved = proved::told(call);
+    if let Some(outcome) = tallies(call, proved.tally, checks::tally) {
+        return outcome;
+    }
+    let checks = checks::applying(call);
+    if checks.is_empty() {
+        answers(proved.said, rust::said(call))
+    } else {
+        refusals(call, checks, proved.said, rust::said)
     }
 }

@@ -42,7 +42,7 @@ fn runs(call: &mut Call) -> Vec<&mut Vec<u32>> {
             &mut call.output_key,
         ),
         (kind.has_key(), &mut call.key),
-        (kind.has_errors() && !kind.has_key(), &mut call.masks),
+        (kind.has_bound() && !kind.has_key(), &mut call.masks),
         (kind.takes_a_run(), &mut call.input),
     ];
     runs.into_iter()
@@ -70,8 +70,8 @@ fn damage_length(draw: &mut Draw, call: &mut Call) {
 
 fn damage_lent(draw: &mut Draw, call: &mut Call) {
     let run = match draw.below(2) {
-        0 if call.kind.has_errors() => &mut call.errors,
-        _ if call.kind.has_errors() && call.kind.has_key() => &mut call.coefficients,
+        0 if call.kind.has_bound() => &mut call.errors,
+        _ if call.kind.has_bound() && call.kind.has_key() => &mut call.coefficients,
         _ => return,
     };
     match draw.below(2) {

@@ -1,6 +1,6 @@
 //! Faults planted in what the Rust is given, in what it says, or in what is expected: each has to be noticed.
 
-use crate::compare::{Outcome, answers, refusals};
+use crate::compare::{Outcome, answers, refusals, tallies};
 use crate::damage::refused;
 use crate::draw::{Draw, accepted};
 use crate::{checks, proved};
@@ -90,7 +90,7 @@ fn answer_differs(fault: &Fault, draw: &mut Draw) -> bool {
     let kind = draw.choose(fault.kinds);
     let call = accepted(draw, kind);
     matches!(
-        answers(proved::said(&call), planted(fault, &call)),
+        answers(proved::told(&call).said, planted(fault, &call)),
         Outcome::Differs(_)
     )
 }
@@ -102,7 +102,7 @@ fn order_differs(draw: &mut Draw) -> bool {
     let mut checks = checks::applying(&call);
     checks.reverse();
     matches!(
-        refusals(&call, checks, proved::said(&call), rust::said),
+        refusals(&call, checks, proved::told(&call).said, rust::said),
         Outcome::Differs(_)
     )
 }
@@ -114,9 +114,22 @@ fn acceptance_differs(draw: &mut Draw) -> bool {
     let checks = checks::applying(&call);
     let accepting = |_: &Call| Said::Words(vec![]);
     matches!(
-        refusals(&call, checks, proved::said(&call), accepting),
+        refusals(&call, checks, proved::told(&call).said, accepting),
         Outcome::Differs(_)
     )
+}
+
+/// A rule of tallies other than 01's.
+fn tally_differs(draw: &mut Draw, kinds: &[Kind], rule: fn(&Call) -> u64) -> bool {
+    let kind = draw.choose(kinds);
+    let call = accepted(draw, kind);
+    tallies(&call, proved::told(&call).tally, rule).is_some()
+}
+
+/// |e|, which is not E.
+fn tally_of_the_error(call: &Call) -> u64 {
+    let most = call.errors.iter().map(|e| e.unsigned_abs() as u64).max();
+    most.unwrap_or(0)
 }
 
 fn say(name: &str, after: Option<u64>) -> bool {
@@ -140,6 +153,20 @@ pub fn all_noticed(seed: u64) -> i32 {
     all &= say(
         "a Rust that accepts everything",
         noticed(seed, acceptance_differs),
+    );
+    let single = [EncryptEncoded, EncryptMessageSigned];
+    all &= say(
+        "a tally of |e|",
+        noticed(seed, |draw| {
+            tally_differs(draw, &single, tally_of_the_error)
+        }),
+    );
+    let without = [PackMessage, PublicEncoded, SwitchBatch, Extract];
+    all &= say(
+        "a tally where there is none",
+        noticed(seed, |draw| {
+            tally_differs(draw, &without, |call| call.bound as u64)
+        }),
     );
     println!(
         "{}",

@@ -9,15 +9,46 @@ use supplied::call::{Call, Kind, Said};
 /// Stands in every output before the call; a refused call leaves it.
 const FILL: u32 = 0xaaaa_aaaa;
 
-/// A call that writes: its numbers, its runs, perhaps one number more, and the output.
-macro_rules! writing {
+/// What the library said, and the tally of what it wrote; none where the call returns no tag.
+pub struct Told {
+    pub said: Said,
+    pub tally: u64,
+}
+
+impl From<Said> for Told {
+    fn from(said: Said) -> Told {
+        Told {
+            said,
+            tally: NO_TALLY,
+        }
+    }
+}
+
+/// A call that writes: its numbers, its runs, perhaps one number more, and the output. What it returns, and the output.
+macro_rules! lent {
     ($call:ident, $function:ident, [$($number:expr),*], [$($run:ident),*] $(, $last:expr)?) => {{
         let mut out = vec![FILL; $call.out_len];
         // SAFETY: each pointer and length is one run of the call, alive and lent while the function runs.
-        let number = unsafe {
+        let returned = unsafe {
             $function($($number,)* $(start(&$call.$run), $call.$run.len(),)* $($last,)? out.as_mut_ptr(), out.len())
         };
+        (returned, out)
+    }};
+}
+
+/// A call that writes and returns a number.
+macro_rules! writing {
+    ($($operand:tt)*) => {{
+        let (number, out) = lent!($($operand)*);
         written(number, out)
+    }};
+}
+
+/// A call that writes ciphertexts and returns their tag.
+macro_rules! tagging {
+    ($($operand:tt)*) => {{
+        let (answer, out) = lent!($($operand)*);
+        Told { said: written(answer.refusal, out), tally: answer.tag.tally() }
     }};
 }
 
@@ -121,31 +152,31 @@ fn codec_call(c: &Call) -> Said {
     }
 }
 
-fn encryption_call(c: &Call) -> Said {
+fn encryption_call(c: &Call) -> Told {
     let (q, n, t, bound, centered) = (c.modulus, c.n, c.t, c.bound, c.centered);
     match c.kind {
-        Kind::EncryptEncoded => writing!(
+        Kind::EncryptEncoded => tagging!(
             c,
             saigagalena_encrypt_encoded,
             [q, n, bound],
             [secret, masks, errors],
             c.value()
         ),
-        Kind::EncryptEncodedSigned => writing!(
+        Kind::EncryptEncodedSigned => tagging!(
             c,
             saigagalena_encrypt_encoded_signed,
             [q, n, bound],
             [secret, masks, errors],
             c.value()
         ),
-        Kind::EncryptMessage => writing!(
+        Kind::EncryptMessage => tagging!(
             c,
             saigagalena_encrypt_message,
             [q, n, t, bound, centered],
             [secret, masks, errors],
             c.value()
         ),
-        _ => writing!(
+        _ => tagging!(
             c,
             saigagalena_encrypt_message_signed,
             [q, n, t, bound, centered],
@@ -156,22 +187,22 @@ fn encryption_call(c: &Call) -> Said {
 }
 
 /// Of many words or messages: a batch, or packed.
-fn run_encryption_call(c: &Call) -> Said {
+fn run_encryption_call(c: &Call) -> Told {
     let (q, n, t, bound, centered) = (c.modulus, c.n, c.t, c.bound, c.centered);
     match c.kind {
-        Kind::EncryptMessageBatch => writing!(
+        Kind::EncryptMessageBatch => tagging!(
             c,
             saigagalena_encrypt_message_batch,
             [q, n, t, bound, centered],
             [secret, masks, errors, input]
         ),
-        Kind::PackEncoded => writing!(
+        Kind::PackEncoded => tagging!(
             c,
             saigagalena_encrypt_encoded_packed,
             [q, n, bound],
             [secret, masks, errors, input]
         ),
-        _ => writing!(
+        _ => tagging!(
             c,
             saigagalena_encrypt_message_packed,
             [q, n, t, bound, centered],
@@ -181,25 +212,17 @@ fn run_encryption_call(c: &Call) -> Said {
 }
 
 fn opening_call(c: &Call) -> Said {
-    let (q, n, t, bound) = (c.modulus, c.n, c.t, c.bound);
+    let (q, n, t) = (c.modulus, c.n, c.t);
     match c.kind {
-        Kind::Phase => answering!(c, saigagalena_decrypt_phase, [q, n, bound], [secret, input]),
-        Kind::PhaseSigned => answering!(
-            c,
-            saigagalena_decrypt_phase_signed,
-            [q, n, bound],
-            [secret, input]
-        ),
-        Kind::Message => answering!(
-            c,
-            saigagalena_decrypt_message,
-            [q, n, t, bound],
-            [secret, input]
-        ),
+        Kind::Phase => answering!(c, saigagalena_decrypt_phase, [q, n], [secret, input]),
+        Kind::PhaseSigned => {
+            answering!(c, saigagalena_decrypt_phase_signed, [q, n], [secret, input])
+        }
+        Kind::Message => answering!(c, saigagalena_decrypt_message, [q, n, t], [secret, input]),
         _ => answering!(
             c,
             saigagalena_decrypt_message_signed,
-            [q, n, t, bound],
+            [q, n, t],
             [secret, input]
         ),
     }
@@ -207,37 +230,28 @@ fn opening_call(c: &Call) -> Said {
 
 /// Of a batch, or of what was packed.
 fn run_opening_call(c: &Call) -> Said {
-    let (q, n, t, bound) = (c.modulus, c.n, c.t, c.bound);
+    let (q, n, t) = (c.modulus, c.n, c.t);
     match c.kind {
-        Kind::PhaseBatch => writing!(
-            c,
-            saigagalena_decrypt_phase_batch,
-            [q, n, bound],
-            [secret, input]
-        ),
+        Kind::PhaseBatch => writing!(c, saigagalena_decrypt_phase_batch, [q, n], [secret, input]),
         Kind::MessageBatch => writing!(
             c,
             saigagalena_decrypt_message_batch,
-            [q, n, t, bound],
+            [q, n, t],
             [secret, input]
         ),
-        Kind::PhasePacked => writing!(
-            c,
-            saigagalena_decrypt_phase_packed,
-            [q, n, bound],
-            [secret, input]
-        ),
+        Kind::PhasePacked => writing!(c, saigagalena_decrypt_phase_packed, [q, n], [secret, input]),
         _ => writing!(
             c,
             saigagalena_decrypt_message_packed,
-            [q, n, t, bound],
+            [q, n, t],
             [secret, input]
         ),
     }
 }
 
-fn public_call(c: &Call) -> Said {
-    let (q, n, t, bound, centered) = (c.modulus, c.n, c.t, c.bound, c.centered);
+/// Keys, which have no tag.
+fn key_call(c: &Call) -> Said {
+    let (q, n, log, levels, m, bound) = (c.modulus, c.n, c.base_log, c.levels, c.m, c.bound);
     match c.kind {
         Kind::PublicKey => writing!(
             c,
@@ -251,14 +265,32 @@ fn public_call(c: &Call) -> Said {
             [q, n, bound],
             [secret, masks, errors]
         ),
-        Kind::PublicEncoded => writing!(
+        Kind::Generate => writing!(
+            c,
+            saigagalena_switching_key_generate,
+            [q, log, levels, n, m, bound],
+            [secret, output_key, masks, errors]
+        ),
+        _ => writing!(
+            c,
+            saigagalena_switching_key_generate_signed,
+            [q, log, levels, n, m, bound],
+            [secret, output_key, masks, errors]
+        ),
+    }
+}
+
+fn public_call(c: &Call) -> Told {
+    let (q, n, t, bound, centered) = (c.modulus, c.n, c.t, c.bound, c.centered);
+    match c.kind {
+        Kind::PublicEncoded => tagging!(
             c,
             saigagalena_public_key_encrypt_encoded,
             [q, n, bound],
             [key, errors, coefficients],
             c.value()
         ),
-        _ => writing!(
+        _ => tagging!(
             c,
             saigagalena_public_key_encrypt_message,
             [q, n, t, bound, centered],
@@ -268,28 +300,16 @@ fn public_call(c: &Call) -> Said {
     }
 }
 
-fn switching_call(c: &Call) -> Said {
+fn switching_call(c: &Call) -> Told {
     let (q, log, levels, n, m) = (c.modulus, c.base_log, c.levels, c.n, c.m);
     match c.kind {
-        Kind::Generate => writing!(
-            c,
-            saigagalena_key_generate,
-            [q, log, levels, n, m, c.bound],
-            [secret, output_key, masks, errors]
-        ),
-        Kind::GenerateSigned => writing!(
-            c,
-            saigagalena_key_generate_signed,
-            [q, log, levels, n, m, c.bound],
-            [secret, output_key, masks, errors]
-        ),
-        Kind::Switch => writing!(
+        Kind::Switch => tagging!(
             c,
             saigagalena_key_switch,
             [q, log, levels, n, m],
             [key, input]
         ),
-        _ => writing!(
+        _ => tagging!(
             c,
             saigagalena_key_switch_batch,
             [q, log, levels, n, m],
@@ -298,19 +318,20 @@ fn switching_call(c: &Call) -> Said {
     }
 }
 
-pub fn said(c: &Call) -> Said {
+pub fn told(c: &Call) -> Told {
     use Kind::*;
     match c.kind {
-        Basis | Reading | DigitsSingle | Digits => basis_call(c),
-        Encode | Decode | EncodeSlice | DecodeSlice => codec_call(c),
+        Basis | Reading | DigitsSingle | Digits => basis_call(c).into(),
+        Encode | Decode | EncodeSlice | DecodeSlice => codec_call(c).into(),
         EncryptEncoded | EncryptEncodedSigned | EncryptMessage | EncryptMessageSigned => {
             encryption_call(c)
         }
         EncryptMessageBatch | PackEncoded | PackMessage => run_encryption_call(c),
-        Phase | PhaseSigned | Message | MessageSigned => opening_call(c),
-        PhaseBatch | MessageBatch | PhasePacked | MessagePacked => run_opening_call(c),
-        PublicKey | PublicKeySigned | PublicEncoded | PublicMessage => public_call(c),
-        Extract => writing!(c, saigagalena_extract, [c.modulus, c.n], [input], c.index),
-        Generate | GenerateSigned | Switch | SwitchBatch => switching_call(c),
+        Phase | PhaseSigned | Message | MessageSigned => opening_call(c).into(),
+        PhaseBatch | MessageBatch | PhasePacked | MessagePacked => run_opening_call(c).into(),
+        PublicKey | PublicKeySigned | Generate | GenerateSigned => key_call(c).into(),
+        PublicEncoded | PublicMessage => public_call(c),
+        Extract => tagging!(c, saigagalena_extract, [c.modulus, c.n], [input], c.index),
+        Switch | SwitchBatch => switching_call(c),
     }
 }

@@ -16,7 +16,7 @@ plant() {
     for test in refusals fuzz; do
         # shellcheck disable=SC2046 # every other file but the other main programs
         "$cc" -std=c11 -O1 -w -Iinclude "$room/c/$test.c" \
-            $(ls "$room"/c/*.c | grep -v -e refusals.c -e fuzz.c -e cases.c) "$archive" -o "$room/$test"
+            $(ls "$room"/c/*.c | grep -v -e refusals.c -e fuzz.c -e cases.c -e tags.c) "$archive" -o "$room/$test"
         if "$room/$test" >"$room/out" 2>&1; then
             echo "$1: $test saw nothing"
             missed=1
@@ -36,4 +36,10 @@ plant "11 is given before 10" model.c 's|            return number;|            
 plant "E = q is accepted" model.c 's|o->bound >= q_of|o->bound > q_of|'
 plant "2048 is refused" model.c 's|n > 2048|n >= 2048|'
 plant "a tally of 2^32 is refused" model.c 's|tally > two32|tally >= two32|'
+plant "a fresh tally is 1" results.c 's|return o->bound;|return 1;|'
+plant "a packed ciphertext has the tally E" model.c 's|packed_result, no_tally|packed_result, fresh_tally|'
+plant "a switched ciphertext has the tally E" model.c 's|switch_rows_result, no_tally|switch_rows_result, fresh_tally|'
+plant "a sum with none keeps the other tally" results.c 's/if (o->tally\[0\] == SAIGAGALENA_NO_TALLY || o/if (o/'
+plant "a refused call gives a tally" model.c 's|+ number, SAIGAGALENA_NO_TALLY}|+ number, 0}|'
+plant "an opening judges E" model.c 's|{"decrypt_phase", MODULUS|{"decrypt_phase", BOUND \| MODULUS|'
 [ "$missed" = 0 ] && echo "c_faults: OK"

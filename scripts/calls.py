@@ -4,6 +4,7 @@
 A table of CALLS.md stands under a heading `## CRATE: ..`, a row a call: names | operands | numbers | promise. Checked:
 - each public function of the crate is named in one row, and each name of a row is a public function of the crate;
 - the first name of the promise column stands in the contract of each call of the row;
+- the promise column says what the tag is where the promise is one of `WritesTagged`, as its definition has it, and only there;
 - the numbers are those of the rows (`row .. N`) that the promise's definition reaches in specs/, in the order of scheme/specs/Checks
   (18 and 19, the programs' own, stand before it). A definition that says only that a number applies lists none.
 """
@@ -14,6 +15,8 @@ from pathlib import Path
 ROOT = Path(__file__).resolve().parent.parent
 FUNCTION = re.compile(r'^( *)pub (?:extern "C" )?fn (\w+)', re.M)
 NAME = re.compile(r"«?[A-Za-z_][\w′]*»?")
+# How a tag is defined, and how CALLS.md says it; the first that is found.
+TAGS = [('tagFrom (Fresh', '; the tally is E'), ('tagOf (addTally', '; the tallies are added'), ('tagFrom ', '; no tally')]
 
 
 def comments_out(text, mark):
@@ -87,6 +90,19 @@ def numbers_of(crate, name, specs, seen):
     return numbers
 
 
+def home_of(crate, name, specs):
+    """The crate that defines a name."""
+    found, imports = specs(crate)
+    return crate if name in found or imports.get(name, crate) == crate else home_of(imports[name], name, specs)
+
+
+def tag_said(definition):
+    """What is to be said of the tag of a call with this promise."""
+    if 'WritesTagged ' not in definition:
+        return None
+    return next((said for how, said in TAGS if how in definition), 'a tag of another kind')
+
+
 def listed(text):
     """The numbers of a cell: `1 to 5, 11`."""
     out = []
@@ -134,6 +150,10 @@ def main():
                 faults.append('%s: its contract does not name `%s`' % (where, promise.group(1)))
             home = names.get(promise.group(1), crate)
             want = sorted(numbers_of(home, promise.group(1), specs, set()), key=lambda n: order.index(n) if n in order else -1)
+            definition = specs(home_of(home, promise.group(1), specs))[0].get(promise.group(1), '')
+            said = next((said for _, said in TAGS if said in cells[3]), None)
+            if said != tag_said(definition):
+                faults.append('%s: the tag is said to be "%s", not "%s"' % (where, said, tag_said(definition)))
             if listed(cells[2]) != want:
                 faults.append('%s: refuses by %s, and by CALLS.md %s' % (where, want, listed(cells[2])))
     for crate in code:

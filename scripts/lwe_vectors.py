@@ -354,9 +354,10 @@ def tag(source, tally=0):
 
 
 def tally_of(words):
-    """The tally, or None. A fresh single secret-key ciphertext has tally E."""
+    """The tally, or None, which a tag holds as 2^64 - 1. A fresh single secret-key ciphertext has tally E."""
     source, low, high = words
-    return low + 2**32 * high if source in (FRESH, GIVEN) else None
+    tally = low + 2**32 * high
+    return tally if source in (FRESH, GIVEN) and tally != 2**64 - 1 else None
 
 
 def tag_of(tally):

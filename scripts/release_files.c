@@ -75,6 +75,13 @@ static void called(const char *name, uint32_t refusal)
     }
 }
 
+/* The tally of what a call wrote. */
+static uint64_t written(const char *name, saigagalena_answer answer)
+{
+    called(name, answer.refusal);
+    return answer.tag.tally;
+}
+
 static unsigned char *put32(unsigned char *at, uint32_t x)
 {
     for (int i = 0; i < 4; i++)
@@ -128,6 +135,7 @@ struct release {
     uint32_t t, bound, levels;
     uint32_t secret[N], group[M], key[ROOM], signed_key[ROOM], public_key[ROOM];
     int32_t signed_secret[N];
+    uint64_t fresh_tally;
     uint32_t fresh[ROWS * (N + 1)], signed_fresh[ROWS * (N + 1)], summed[ROWS * (N + 1)];
 };
 
@@ -151,7 +159,7 @@ static void save_rows(const struct release *r, const char *name, const uint32_t 
     uint32_t told[ROWS];
 
     save(r->name, name, "", ciphertexts(r, n, count), rows, len, tally == SAIGAGALENA_NO_TALLY ? NULL : tallies);
-    called(name, saigagalena_decrypt_message_batch(r->d.modulus, n, r->t, r->bound, secret, n, rows, len, told, count));
+    called(name, saigagalena_decrypt_message_batch(r->d.modulus, n, r->t, secret, n, rows, len, told, count));
     save_opens(r, name, told, count);
 }
 
@@ -196,8 +204,8 @@ static void make_key(struct release *r)
 
     words(&r->d, masks, count * M);
     numbers(&r->d, errors, count, (int32_t)r->bound);
-    called("switching key", saigagalena_key_generate(r->d.modulus, BASE_LOG, 0, N, M, r->bound, r->secret, N, r->group, M, masks, count * M, errors,
-                                                     count, r->key, key_len(r)));
+    called("switching key", saigagalena_switching_key_generate(r->d.modulus, BASE_LOG, 0, N, M, r->bound, r->secret, N, r->group, M, masks, count * M,
+                                                               errors, count, r->key, key_len(r)));
     save(r->name, "switching_key", "", switching_head(r), r->key, key_len(r), NULL);
 }
 
@@ -209,8 +217,8 @@ static void make_signed_key(struct release *r)
 
     words(&r->d, masks, count * M);
     numbers(&r->d, errors, count, (int32_t)r->bound);
-    called("signed switching key", saigagalena_key_generate_signed(r->d.modulus, BASE_LOG, 0, N, M, r->bound, r->signed_secret, N, r->group, M, masks,
-                                                                   count * M, errors, count, r->signed_key, key_len(r)));
+    called("signed switching key", saigagalena_switching_key_generate_signed(r->d.modulus, BASE_LOG, 0, N, M, r->bound, r->signed_secret, N, r->group,
+                                                                             M, masks, count * M, errors, count, r->signed_key, key_len(r)));
     save(r->name, "signed_switching_key", "", switching_head(r), r->signed_key, key_len(r), NULL);
 }
 
@@ -234,14 +242,14 @@ static void make_fresh(struct release *r)
     words(&r->d, masks, ROWS * N);
     numbers(&r->d, errors, ROWS, (int32_t)r->bound);
     messages(&r->d, told, ROWS, r->t);
-    called("fresh", saigagalena_encrypt_message_batch(r->d.modulus, N, r->t, r->bound, 0, r->secret, N, masks, ROWS * N, errors, ROWS, told, ROWS,
-                                                      r->fresh, ROWS * (N + 1)));
-    save_rows(r, "fresh", r->fresh, N, ROWS, r->secret, r->bound);
+    r->fresh_tally = written("fresh", saigagalena_encrypt_message_batch(r->d.modulus, N, r->t, r->bound, 0, r->secret, N, masks, ROWS * N, errors, ROWS,
+                                                                        told, ROWS, r->fresh, ROWS * (N + 1)));
+    save_rows(r, "fresh", r->fresh, N, ROWS, r->secret, r->fresh_tally);
 }
 
 static void make_signed_fresh(struct release *r)
 {
-    const uint64_t tallies[ROWS] = {r->bound, r->bound, r->bound, r->bound};
+    uint64_t tallies[ROWS];
     uint32_t masks[ROWS * N], told[ROWS];
     int32_t errors[ROWS];
 
@@ -251,9 +259,9 @@ static void make_signed_fresh(struct release *r)
     for (size_t i = 0; i < ROWS; i++) {
         uint32_t *row = r->signed_fresh + i * (N + 1);
 
-        called("signed fresh", saigagalena_encrypt_message_signed(r->d.modulus, N, r->t, r->bound, 1, r->signed_secret, N, masks + i * N, N,
-                                                                  errors + i, 1, told[i], row, N + 1));
-        told[i] = (uint32_t)saigagalena_decrypt_message_signed(r->d.modulus, N, r->t, r->bound, r->signed_secret, N, row, N + 1);
+        tallies[i] = written("signed fresh", saigagalena_encrypt_message_signed(r->d.modulus, N, r->t, r->bound, 1, r->signed_secret, N, masks + i * N, N,
+                                                                                errors + i, 1, told[i], row, N + 1));
+        told[i] = (uint32_t)saigagalena_decrypt_message_signed(r->d.modulus, N, r->t, r->signed_secret, N, row, N + 1);
     }
     save(r->name, "signed_fresh", "", ciphertexts(r, N, ROWS), r->signed_fresh, ROWS * (N + 1), tallies);
     save_opens(r, "signed_fresh", told, ROWS);
@@ -262,10 +270,13 @@ static void make_signed_fresh(struct release *r)
 /* Each fresh ciphertext and the one after it, round. */
 static void make_summed(struct release *r)
 {
+    const saigagalena_tag tag = saigagalena_saved_tag(r->fresh_tally);
+    uint64_t tally = SAIGAGALENA_NO_TALLY;
+
     memcpy(r->summed, r->fresh, sizeof r->fresh);
     for (size_t i = 0; i < ROWS; i++)
-        called("summed", saigagalena_add(r->d.modulus, N, r->summed + i * (N + 1), N + 1, r->fresh + (i + 1) % ROWS * (N + 1), N + 1));
-    save_rows(r, "summed", r->summed, N, ROWS, r->secret, saigagalena_add_tally(r->bound, r->bound));
+        tally = written("summed", saigagalena_add(r->d.modulus, N, r->summed + i * (N + 1), N + 1, tag, r->fresh + (i + 1) % ROWS * (N + 1), N + 1, tag));
+    save_rows(r, "summed", r->summed, N, ROWS, r->secret, tally);
 }
 
 static void make_packed(struct release *r)
@@ -278,9 +289,9 @@ static void make_packed(struct release *r)
     words(&r->d, mask, N);
     numbers(&r->d, errors, MANY, (int32_t)r->bound);
     messages(&r->d, told, MANY, r->t);
-    called("packed", saigagalena_encrypt_message_packed(r->d.modulus, N, r->t, r->bound, 0, r->secret, N, mask, N, errors, MANY, told, MANY, out,
-                                                        N + MANY));
-    called("packed", saigagalena_decrypt_message_packed(r->d.modulus, N, r->t, r->bound, r->secret, N, out, N + MANY, told, MANY));
+    written("packed", saigagalena_encrypt_message_packed(r->d.modulus, N, r->t, r->bound, 0, r->secret, N, mask, N, errors, MANY, told, MANY, out,
+                                                         N + MANY));
+    called("packed", saigagalena_decrypt_message_packed(r->d.modulus, N, r->t, r->secret, N, out, N + MANY, told, MANY));
     save(r->name, "packed", "", h, out, N + MANY, NULL);
     save_opens(r, "packed", told, MANY);
 }
@@ -289,6 +300,7 @@ static void make_public(struct release *r)
 {
     enum { COUNT = 3 };
     uint32_t told[COUNT], rows[COUNT * (N + 1)];
+    uint64_t tally = 0;
 
     messages(&r->d, told, COUNT, r->t);
     for (size_t i = 0; i < COUNT; i++) {
@@ -296,18 +308,20 @@ static void make_public(struct release *r)
 
         numbers(&r->d, errors, N + 1, (int32_t)r->bound);
         numbers(&r->d, coefficients, N, 1);
-        called("public", saigagalena_public_key_encrypt_message(r->d.modulus, N, r->t, r->bound, 0, r->public_key, N * (N + 1), errors, N + 1,
-                                                                coefficients, N, told[i], rows + i * (N + 1), N + 1));
+        tally = written("public", saigagalena_public_key_encrypt_message(r->d.modulus, N, r->t, r->bound, 0, r->public_key, N * (N + 1), errors, N + 1,
+                                                                         coefficients, N, told[i], rows + i * (N + 1), N + 1));
     }
-    save_rows(r, "public", rows, N, COUNT, r->secret, SAIGAGALENA_NO_TALLY);
+    save_rows(r, "public", rows, N, COUNT, r->secret, tally);
 }
 
 static void make_switched(struct release *r, const char *name, const uint32_t *key, const uint32_t *rows)
 {
     uint32_t out[ROWS * (M + 1)];
 
-    called(name, saigagalena_key_switch_batch(r->d.modulus, BASE_LOG, 0, N, M, key, key_len(r), rows, ROWS * (N + 1), out, ROWS * (M + 1)));
-    save_rows(r, name, out, M, ROWS, r->group, SAIGAGALENA_NO_TALLY);
+    const uint64_t tally = written(name, saigagalena_key_switch_batch(r->d.modulus, BASE_LOG, 0, N, M, key, key_len(r), rows, ROWS * (N + 1), out,
+                                                                      ROWS * (M + 1)));
+
+    save_rows(r, name, out, M, ROWS, r->group, tally);
 }
 
 static void make_release(const char *name, uint32_t modulus, uint64_t seed)
@@ -364,7 +378,6 @@ static void make_shop(struct release *r, int shop)
 {
     static unsigned char bytes[64 + 4 * ROOM];
     const uint32_t n = shop == 5 ? N - 4 : N;
-    const uint64_t tallies[ROWS] = {r->bound, r->bound, r->bound, r->bound};
     const char name[] = {'s', 'h', 'o', 'p', '_', (char)('0' + shop), 0};
     uint32_t masks[ROWS * N];
     int32_t errors[ROWS];
@@ -372,8 +385,10 @@ static void make_shop(struct release *r, int shop)
 
     words(&r->d, masks, (size_t)ROWS * n);
     numbers(&r->d, errors, ROWS, (int32_t)r->bound);
-    called(name, saigagalena_encrypt_message_batch(r->d.modulus, n, r->t, r->bound, 0, r->secret, n, masks, (size_t)ROWS * n, errors, ROWS,
-                                                   counts[shop - 1], ROWS, r->fresh, (size_t)ROWS * (n + 1)));
+    const uint64_t tally = written(name, saigagalena_encrypt_message_batch(r->d.modulus, n, r->t, r->bound, 0, r->secret, n, masks, (size_t)ROWS * n,
+                                                                           errors, ROWS, counts[shop - 1], ROWS, r->fresh, (size_t)ROWS * (n + 1)));
+    const uint64_t tallies[ROWS] = {tally, tally, tally, tally};
+
     len = layout(bytes, ciphertexts(r, n, ROWS), r->fresh, (size_t)ROWS * (n + 1), tallies);
     write_bytes(r->name, name, "", bytes, damage(shop, bytes, len, r->d.modulus));
 }

@@ -18,10 +18,11 @@ sys.dont_write_bytecode = True  # importing must leave no file in the repository
 
 import lwe_vectors
 from lwe_vectors import HEAD, HIGHEST, LIMIT, LOWEST, WORD_MAX, encrypted, other_lengths, outside, phase_of, record, replaced
-from lwe_vectors import rows_of, words_fail, words_not_below_q
+from lwe_vectors import rows_of, words_fail, words_not_below_q, written
 from scheme01 import Basis, Draw, value_bits, write_or_check
 
 OPEN = WORD_MAX
+MISSING = WORD_MAX
 
 
 @dataclass(frozen=True)
@@ -239,19 +240,31 @@ class Batch(Call):
 
 
 class Entry(Call):
-    """LweKeySwitchingKey::entry(key a, place value, level t): the part in the buffer. No number: an empty part where 1 to 6 or 9
-    apply, or there is no such entry."""
+    """LweKeySwitchingKey::entry and entry_words(key a, place value, level t): the answer is where the entry begins, or MISSING where
+    there is none, and the entry's words are in the buffer."""
 
     kind, name = 32, "entry"
+    fields = {9: ("a",)}
 
-    def make(self, p, i, j):
+    def own_rows(self, k):
+        yield 9, len(k.a) != k.n * k.L * (k.m + 1)
+
+    def make(self, p, i=0, j=0):
         key = p.key()
         held = i < p.n and j < p.L
         return p.base(a=key, value=i, t=j, out=p.room(p.m + 1 if held else 0))
 
     def result(self, k):
+        if k.value >= k.n or k.t >= k.L:
+            return MISSING, []
         at = (k.value * k.L + k.t) * (k.m + 1)
-        return 0, k.a[at : at + len(k.out)]
+        return at, k.a[at : at + k.m + 1]
+
+    def record(self, k):
+        """A place is no word: it may lie at or above q."""
+        refusal = min(self.applying(k), default=0)
+        answer, after = (0, k.out) if refusal else self.result(k)
+        return written(self.kind, k, refusal, answer, after)
 
 
 CALLS = [Parameters(), Generate(), GenerateSigned(), Switch(), Batch()]
@@ -364,11 +377,12 @@ def largest_records(draw):
 
 
 def entry_records(draw):
-    """Each entry of a key, and the places and levels past the last."""
+    """Each entry of a key, the places and levels past the last, and keys that are refused."""
     for basis in ((None, 4, OPEN), (17, 2, OPEN), (65536, 4, 2)):
         p = Pick(draw, *basis, 2, 3)
         for i in (0, 1, 2, WORD_MAX):
-            yield from (record(Entry(), Entry().make(p, i, j)) for j in (0, p.L - 1, p.L, WORD_MAX))
+            yield from (Entry().record(Entry().make(p, i, j)) for j in (0, p.L - 1, p.L, WORD_MAX))
+        yield from (Entry().record(k) for k in refused_cases(draw, Entry(), basis))
 
 
 def files():

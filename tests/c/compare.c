@@ -87,6 +87,15 @@ static int buffers_agree(const struct call *call, const struct operands *o, cons
     return agree;
 }
 
+static int same_answer(const struct call *call, struct answer got, struct answer want, const char *where)
+{
+    if (got.number != want.number)
+        printf("%s: answered %" PRIu64 ", not %" PRIu64 "%s\n", call->name, got.number, want.number, where);
+    if (got.tally != want.tally)
+        printf("%s: its tally is %" PRIu64 ", not %" PRIu64 "%s\n", call->name, got.tally, want.tally, where);
+    return got.number == want.number && got.tally == want.tally;
+}
+
 int agrees(const struct call *call, const struct operands *o, enum placement placement, int null)
 {
     static void *expected;
@@ -100,12 +109,9 @@ int agrees(const struct call *call, const struct operands *o, enum placement pla
     place(call, o, placement, null, &placed);
     if (len(o, OUT) != 0)
         memcpy(expected, placed.slice[OUT].at, len(o, OUT) * element_size(call, OUT));
-    const uint64_t want = model_answer(call, &placed, expected), got = library_answer(call, &placed);
+    const struct answer want = model_answer(call, &placed, expected);
 
-    if (got != want) {
-        printf("%s: answered %" PRIu64 ", not %" PRIu64 "\n", call->name, got, want);
-        agree = 0;
-    }
+    agree &= same_answer(call, library_answer(call, &placed), want, "");
     agree &= buffers_agree(call, o, &placed, expected);
     if (!unplace(&placed)) {
         printf("%s: words around a buffer were written\n", call->name);
@@ -125,10 +131,5 @@ int refuses_unread(const struct call *call, const struct operands *o, uint32_t n
     current_call = call;
     current = o;
     close_slices(call, &closed);
-    const uint64_t got = library_answer(call, &closed);
-    const uint64_t want = call->takes & ANSWER ? (UINT64_C(1) << 32) + number : number;
-
-    if (got != want)
-        printf("%s: answered %" PRIu64 ", not %" PRIu64 ", where no slice may be read\n", call->name, got, want);
-    return got == want;
+    return same_answer(call, library_answer(call, &closed), model_refused(call, number), ", where no slice may be read");
 }

@@ -21,7 +21,7 @@ static const struct kind parameters[] = {
 };
 
 /* What fits nothing else is damaged late only. */
-static const struct kind numbers[] = {{BAD_VALUE, WORD | MESSAGE, 5}, {BAD_TALLY, TALLY | TALLIES, 15}};
+static const struct kind numbers[] = {{BAD_VALUE, WORD | MESSAGE, 5}, {BAD_TALLY, TALLY | TALLIES | SAVED, 15}};
 
 static size_t add_damages(struct damage *list, size_t count, struct damage first, unsigned variants)
 {
@@ -48,7 +48,7 @@ size_t list_damages(const struct call *call, struct damage list[MOST_DAMAGES])
     for (size_t i = 0; i < COUNT(numbers); i++)
         if (call->takes & numbers[i].takes)
             count = add_damages(list, count, (struct damage){numbers[i].what, LATE, 0, 0}, numbers[i].variants);
-    if (call->input == PACKED_INDEX)
+    if (call->input == PACKED_INDEX || call->input == BODY_COUNT)
         count = add_damages(list, count, (struct damage){BAD_INDEX, LATE, 0, 0}, 4);
     if (call->fields >> INPUT & 1)
         count = add_damages(list, count, (struct damage){BAD_LENGTH, INPUT_LENGTH, INPUT, 0}, 8);
@@ -117,11 +117,13 @@ static void damage_bound(const struct damage *damage, struct operands *o)
         o->bound = (uint32_t)bounds[damage->variant];
 }
 
-static void damage_index(const struct damage *damage, struct operands *o)
+/* A body that is not there; or more bodies than n. */
+static void damage_index(const struct call *call, const struct damage *damage, struct operands *o)
 {
-    const size_t bad[] = {len(o, INPUT) - o->n, o->n, SIZE_MAX, (size_t)UINT32_MAX + 1};
+    const size_t places[] = {len(o, INPUT) - o->n, o->n, SIZE_MAX, (size_t)UINT32_MAX + 1};
+    const size_t counts[] = {o->n + 1, SIZE_MAX - o->n + 1, SIZE_MAX, (size_t)UINT32_MAX + 1};
 
-    o->index = bad[damage->variant];
+    o->index = call->input == BODY_COUNT ? counts[damage->variant] : places[damage->variant];
 }
 
 static void damage_value(const struct call *call, const struct damage *damage, struct operands *o)
@@ -226,7 +228,7 @@ void do_damage(struct draw *d, const struct call *call, const struct damage *dam
         return;
     switch (damage->what) {
     case BAD_INDEX:
-        damage_index(damage, o);
+        damage_index(call, damage, o);
         break;
     case BAD_VALUE:
         damage_value(call, damage, o);

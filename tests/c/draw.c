@@ -136,6 +136,9 @@ static void draw_parameters(struct draw *d, const struct call *call, const struc
     draw_dimensions(d, call, plan, o);
     o->tally[0] = draw_tally(d);
     o->tally[1] = draw_tally(d);
+    /* a sum that is not above 2^32 */
+    if (o->tally[0] != SAIGAGALENA_NO_TALLY && o->tally[1] != SAIGAGALENA_NO_TALLY)
+        o->tally[1] = least(o->tally[1], (UINT64_C(1) << 32) - o->tally[0]);
 }
 
 /* --- Lengths --- */
@@ -166,6 +169,9 @@ static size_t draw_input_length(struct draw *d, const struct call *call, const s
     case PACKED_INDEX:
         o->index = o->n == 0 ? 0 : draw_below(d, o->n);
         return o->n + least(o->index + 1 + draw_below(d, 3), o->n);
+    case BODY_COUNT:
+        o->index = draw_below(d, 4) ? least(rows, o->n) : o->n;
+        return 0;
     default:
         return 0;
     }

@@ -98,12 +98,12 @@ static double now(void)
 
 static void print_table(void)
 {
-    printf("%-28s %8s", "call", "accepted");
+    printf("%-30s %8s", "call", "accepted");
     for (int x = 1; x < NUMBERS; x++)
         printf(" %6d", x);
     printf("\n");
     for (size_t i = 0; i < call_count; i++) {
-        printf("%-28s %8lu", calls[i].name, seen[i][0]);
+        printf("%-30s %8lu", calls[i].name, seen[i][0]);
         for (int x = 1; x < NUMBERS; x++)
             printf(seen[i][x] ? " %6lu" : " %6.0lu", seen[i][x]);
         printf("\n");

@@ -4,6 +4,6 @@
 
 #include "model.h"
 
-uint64_t library_answer(const struct call *call, const struct operands *o);
+struct answer library_answer(const struct call *call, const struct operands *o);
 
 #endif

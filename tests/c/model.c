@@ -104,6 +104,8 @@ static int input_fails(enum input_kind kind, const struct operands *o)
         return have < n || have - n > n;
     case PACKED_INDEX:
         return have < n || have - n > n || o->index >= have - n;
+    case BODY_COUNT:
+        return o->index > n;
     default:
         return 0;
     }
@@ -186,13 +188,18 @@ uint32_t model_refusal(const struct call *call, const struct operands *o)
     return 0;
 }
 
-uint64_t model_answer(const struct call *call, const struct operands *o, void *out)
+struct answer model_refused(const struct call *call, uint32_t number)
 {
-    const uint64_t refusal = model_refusal(call, o);
+    return (struct answer){(call->takes & ANSWER ? SAIGAGALENA_REFUSED : 0) + number, SAIGAGALENA_NO_TALLY};
+}
 
-    if (refusal == 0)
-        return call->result(o, out);
-    return call->takes & ANSWER ? SAIGAGALENA_REFUSED + refusal : refusal;
+struct answer model_answer(const struct call *call, const struct operands *o, void *out)
+{
+    const uint32_t refusal = model_refusal(call, o);
+
+    if (refusal != 0)
+        return model_refused(call, refusal);
+    return (struct answer){call->result(o, out), call->tally(o)};
 }
 
 size_t element_size(const struct call *call, enum field field)
@@ -210,59 +217,69 @@ size_t element_size(const struct call *call, enum field field)
 #define SWITCHES "1 2 3 4 5 6 9 10 11 14"
 
 const struct call calls[] = {
-    {"basis", MODULUS | BASE, F(OUT), NO_INPUT, basis_lengths, basis_result, "1 2 3 4 5 11"},
-    {"reading", MODULUS | BASE | WORD, F(OUT), NO_INPUT, reading_lengths, reading_result, "1 2 3 4 5 11 14"},
-    {"decompose", MODULUS | BASE, F(INPUT) | F(OUT), ANY, decompose_lengths, decompose_result, "1 2 3 4 5 11 14"},
-    {"encode", MODULUS | T | MESSAGE | ANSWER, 0, NO_INPUT, no_lengths, encode_result, "2 7 8 16"},
-    {"decode", MODULUS | T | WORD | ANSWER, 0, NO_INPUT, no_lengths, decode_result, "2 7 8 14"},
-    {"encode_slice", MODULUS | T | MESSAGES, F(INPUT) | F(OUT), ANY, same_lengths, encode_slice_result, "2 7 8 11 16"},
-    {"decode_slice", MODULUS | T, F(INPUT) | F(OUT), ANY, same_lengths, decode_slice_result, "2 7 8 11 14"},
-    {"encrypt_encoded", MODULUS | N | BOUND | WORD, F(KEY) | LENT, NO_INPUT, encrypt_lengths, encrypt_encoded_result, ENCODED},
+    {"ciphertext_words", N | ANSWER, 0, NO_INPUT, no_lengths, ciphertext_words_result, no_tally, "6"},
+    {"packed_words", N | ANSWER, 0, BODY_COUNT, no_lengths, packed_words_result, no_tally, "6 10"},
+    {"public_key_words", N | ANSWER, 0, NO_INPUT, no_lengths, public_key_words_result, no_tally, "6"},
+    {"switching_key_words", MODULUS | BASE | N | M | ANSWER, 0, NO_INPUT, no_lengths, switching_key_words_result, no_tally,
+     "1 2 3 4 5 6"},
+    {"basis", MODULUS | BASE, F(OUT), NO_INPUT, basis_lengths, basis_result, no_tally, "1 2 3 4 5 11"},
+    {"reading", MODULUS | BASE | WORD, F(OUT), NO_INPUT, reading_lengths, reading_result, no_tally, "1 2 3 4 5 11 14"},
+    {"decompose", MODULUS | BASE, F(INPUT) | F(OUT), ANY, decompose_lengths, decompose_result, no_tally, "1 2 3 4 5 11 14"},
+    {"encode", MODULUS | T | MESSAGE | ANSWER, 0, NO_INPUT, no_lengths, encode_result, no_tally, "2 7 8 16"},
+    {"decode", MODULUS | T | WORD | ANSWER, 0, NO_INPUT, no_lengths, decode_result, no_tally, "2 7 8 14"},
+    {"encode_slice", MODULUS | T | MESSAGES, F(INPUT) | F(OUT), ANY, same_lengths, encode_slice_result, no_tally,
+     "2 7 8 11 16"},
+    {"decode_slice", MODULUS | T, F(INPUT) | F(OUT), ANY, same_lengths, decode_slice_result, no_tally, "2 7 8 11 14"},
+    {"encrypt_encoded", MODULUS | N | BOUND | WORD, F(KEY) | LENT, NO_INPUT, encrypt_lengths, encrypt_encoded_result,
+     fresh_tally, ENCODED},
     {"encrypt_encoded_signed", MODULUS | N | BOUND | WORD, F(SIGNED_KEY) | LENT, NO_INPUT, encrypt_lengths,
-     encrypt_encoded_result, ENCODED},
+     encrypt_encoded_result, fresh_tally, ENCODED},
     {"encrypt_message", MODULUS | N | T | BOUND | MESSAGE, F(KEY) | LENT, NO_INPUT, encrypt_lengths, encrypt_message_result,
-     MESSAGED},
+     fresh_tally, MESSAGED},
     {"encrypt_message_signed", MODULUS | N | T | BOUND | MESSAGE, F(SIGNED_KEY) | LENT, NO_INPUT, encrypt_lengths,
-     encrypt_message_result, MESSAGED},
+     encrypt_message_result, fresh_tally, MESSAGED},
     {"encrypt_message_batch", MODULUS | N | T | BOUND | MESSAGES, F(KEY) | F(INPUT) | LENT, ANY, encrypt_rows_lengths,
-     encrypt_rows_result, MESSAGED},
-    {"encrypt_encoded_packed", MODULUS | N | BOUND, F(KEY) | F(INPUT) | LENT, UP_TO_N, packed_lengths, packed_result,
+     encrypt_rows_result, fresh_tally, MESSAGED},
+    {"encrypt_encoded_packed", MODULUS | N | BOUND, F(KEY) | F(INPUT) | LENT, UP_TO_N, packed_lengths, packed_result, no_tally,
      "2 6 9 10 11 12 13 14 15"},
     {"encrypt_message_packed", MODULUS | N | T | BOUND | MESSAGES, F(KEY) | F(INPUT) | LENT, UP_TO_N, packed_lengths,
-     packed_messages_result, "2 6 7 8 9 10 11 12 13 14 15 16"},
-    {"decrypt_phase", MODULUS | N | BOUND | ANSWER, F(KEY) | F(INPUT), CIPHERTEXT, open_lengths, phase_result, "2 6 9 10 13 14"},
-    {"decrypt_phase_signed", MODULUS | N | BOUND | ANSWER, F(SIGNED_KEY) | F(INPUT), CIPHERTEXT, open_lengths, phase_result,
-     "2 6 9 10 13 14"},
-    {"decrypt_message", MODULUS | N | T | BOUND | ANSWER, F(KEY) | F(INPUT), CIPHERTEXT, open_lengths, message_result,
-     "2 6 7 8 9 10 13 14"},
-    {"decrypt_message_signed", MODULUS | N | T | BOUND | ANSWER, F(SIGNED_KEY) | F(INPUT), CIPHERTEXT, open_lengths,
-     message_result, "2 6 7 8 9 10 13 14"},
-    {"decrypt_phase_batch", MODULUS | N | BOUND, F(KEY) | F(INPUT) | F(OUT), CIPHERTEXTS, open_rows_lengths, phases_result,
-     "2 6 9 10 11 13 14"},
-    {"decrypt_message_batch", MODULUS | N | T | BOUND, F(KEY) | F(INPUT) | F(OUT), CIPHERTEXTS, open_rows_lengths,
-     messages_result, "2 6 7 8 9 10 11 13 14"},
-    {"decrypt_phase_packed", MODULUS | N | BOUND, F(KEY) | F(INPUT) | F(OUT), PACKED, open_packed_lengths, packed_phases_result,
-     "2 6 9 10 11 13 14"},
-    {"decrypt_message_packed", MODULUS | N | T | BOUND, F(KEY) | F(INPUT) | F(OUT), PACKED, open_packed_lengths,
-     packed_open_result, "2 6 7 8 9 10 11 13 14"},
-    {"public_key_generate", MODULUS | N | BOUND, F(KEY) | LENT, NO_INPUT, public_key_lengths, public_key_result, ENCODED},
-    {"public_key_generate_signed", MODULUS | N | BOUND, F(SIGNED_KEY) | LENT, NO_INPUT, public_key_lengths, public_key_result,
+     packed_messages_result, no_tally, "2 6 7 8 9 10 11 12 13 14 15 16"},
+    {"decrypt_phase", MODULUS | N | ANSWER, F(KEY) | F(INPUT), CIPHERTEXT, open_lengths, phase_result, no_tally, "2 6 9 10 14"},
+    {"decrypt_phase_signed", MODULUS | N | ANSWER, F(SIGNED_KEY) | F(INPUT), CIPHERTEXT, open_lengths, phase_result, no_tally,
+     "2 6 9 10 14"},
+    {"decrypt_message", MODULUS | N | T | ANSWER, F(KEY) | F(INPUT), CIPHERTEXT, open_lengths, message_result, no_tally,
+     "2 6 7 8 9 10 14"},
+    {"decrypt_message_signed", MODULUS | N | T | ANSWER, F(SIGNED_KEY) | F(INPUT), CIPHERTEXT, open_lengths, message_result,
+     no_tally, "2 6 7 8 9 10 14"},
+    {"decrypt_phase_batch", MODULUS | N, F(KEY) | F(INPUT) | F(OUT), CIPHERTEXTS, open_rows_lengths, phases_result, no_tally,
+     "2 6 9 10 11 14"},
+    {"decrypt_message_batch", MODULUS | N | T, F(KEY) | F(INPUT) | F(OUT), CIPHERTEXTS, open_rows_lengths, messages_result,
+     no_tally, "2 6 7 8 9 10 11 14"},
+    {"decrypt_phase_packed", MODULUS | N, F(KEY) | F(INPUT) | F(OUT), PACKED, open_packed_lengths, packed_phases_result,
+     no_tally, "2 6 9 10 11 14"},
+    {"decrypt_message_packed", MODULUS | N | T, F(KEY) | F(INPUT) | F(OUT), PACKED, open_packed_lengths, packed_open_result,
+     no_tally, "2 6 7 8 9 10 11 14"},
+    {"public_key_generate", MODULUS | N | BOUND, F(KEY) | LENT, NO_INPUT, public_key_lengths, public_key_result, no_tally,
      ENCODED},
+    {"public_key_generate_signed", MODULUS | N | BOUND, F(SIGNED_KEY) | LENT, NO_INPUT, public_key_lengths, public_key_result,
+     no_tally, ENCODED},
     {"public_key_encrypt_encoded", MODULUS | N | BOUND | WORD, F(KEY) | F(ERRORS) | F(COEFFICIENTS) | F(OUT), NO_INPUT,
-     public_encrypt_lengths, public_encoded_result, ENCODED},
+     public_encrypt_lengths, public_encoded_result, no_tally, ENCODED},
     {"public_key_encrypt_message", MODULUS | N | T | BOUND | MESSAGE, F(KEY) | F(ERRORS) | F(COEFFICIENTS) | F(OUT), NO_INPUT,
-     public_encrypt_lengths, public_message_result, MESSAGED},
-    {"add", MODULUS | N | SUM, F(INPUT) | F(OUT), CIPHERTEXT, ciphertext_lengths, sum_result, "2 6 10 14"},
-    {"add_tally", TALLIES | ANSWER, 0, NO_INPUT, no_lengths, tally_result, "17"},
-    {"is_good", MODULUS | T | TALLY | ANSWER, 0, NO_INPUT, no_lengths, good_result, "2 7 8 17"},
-    {"extract", MODULUS | N, F(INPUT) | F(OUT), PACKED_INDEX, ciphertext_lengths, extract_result, "2 6 10 11 14"},
-    {"key_generate", MODULUS | BASE | N | M | BOUND, F(KEY) | F(OUTPUT_KEY) | LENT, NO_INPUT, generate_lengths, generate_result,
-     GENERATES},
-    {"key_generate_signed", MODULUS | BASE | N | M | BOUND, F(SIGNED_KEY) | F(OUTPUT_KEY) | LENT, NO_INPUT, generate_lengths,
-     generate_result, GENERATES},
-    {"key_switch", MODULUS | BASE | N | M, F(KEY) | F(INPUT) | F(OUT), CIPHERTEXT, switch_lengths, switch_result, SWITCHES},
+     public_encrypt_lengths, public_message_result, no_tally, MESSAGED},
+    {"saved_tag", SAVED, 0, NO_INPUT, no_lengths, tag_result, saved_tally, ""},
+    {"add", MODULUS | N | SUM | TALLIES, F(INPUT) | F(OUT), CIPHERTEXT, ciphertext_lengths, sum_result, sum_tally,
+     "2 6 10 14 17"},
+    {"is_good", MODULUS | T | TALLY | ANSWER, 0, NO_INPUT, no_lengths, good_result, no_tally, "2 7 8 17"},
+    {"extract", MODULUS | N, F(INPUT) | F(OUT), PACKED_INDEX, ciphertext_lengths, extract_result, no_tally, "2 6 10 11 14"},
+    {"switching_key_generate", MODULUS | BASE | N | M | BOUND, F(KEY) | F(OUTPUT_KEY) | LENT, NO_INPUT, generate_lengths,
+     generate_result, no_tally, GENERATES},
+    {"switching_key_generate_signed", MODULUS | BASE | N | M | BOUND, F(SIGNED_KEY) | F(OUTPUT_KEY) | LENT, NO_INPUT,
+     generate_lengths, generate_result, no_tally, GENERATES},
+    {"key_switch", MODULUS | BASE | N | M, F(KEY) | F(INPUT) | F(OUT), CIPHERTEXT, switch_lengths, switch_result, no_tally,
+     SWITCHES},
     {"key_switch_batch", MODULUS | BASE | N | M, F(KEY) | F(INPUT) | F(OUT), CIPHERTEXTS, switch_rows_lengths,
-     switch_rows_result, SWITCHES},
+     switch_rows_result, no_tally, SWITCHES},
 };
 
 const size_t call_count = sizeof calls / sizeof calls[0];

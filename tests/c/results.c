@@ -360,6 +360,57 @@ uint64_t public_message_result(const struct operands *o, void *out)
     return 0;
 }
 
+/* --- Tallies --- */
+
+uint64_t fresh_tally(const struct operands *o)
+{
+    return o->bound;
+}
+
+uint64_t no_tally(const struct operands *o)
+{
+    (void)o;
+    return SAIGAGALENA_NO_TALLY;
+}
+
+uint64_t sum_tally(const struct operands *o)
+{
+    if (o->tally[0] == SAIGAGALENA_NO_TALLY || o->tally[1] == SAIGAGALENA_NO_TALLY)
+        return SAIGAGALENA_NO_TALLY;
+    return o->tally[0] + o->tally[1];
+}
+
+uint64_t saved_tally(const struct operands *o)
+{
+    return o->tally[0];
+}
+
+/* --- Lengths --- */
+
+uint64_t ciphertext_words_result(const struct operands *o, void *out)
+{
+    (void)out;
+    return o->n + 1;
+}
+
+uint64_t packed_words_result(const struct operands *o, void *out)
+{
+    (void)out;
+    return o->n + o->index;
+}
+
+uint64_t public_key_words_result(const struct operands *o, void *out)
+{
+    (void)out;
+    return o->n * (o->n + 1);
+}
+
+uint64_t switching_key_words_result(const struct operands *o, void *out)
+{
+    (void)out;
+    return o->n * level_count(o) * (o->m + 1);
+}
+
 /* --- Sums, marks, extraction --- */
 
 uint64_t sum_result(const struct operands *o, void *out)
@@ -369,12 +420,12 @@ uint64_t sum_result(const struct operands *o, void *out)
     return 0;
 }
 
-uint64_t tally_result(const struct operands *o, void *out)
+/* Only a tag, which the tally is. */
+uint64_t tag_result(const struct operands *o, void *out)
 {
+    (void)o;
     (void)out;
-    if (o->tally[0] == SAIGAGALENA_NO_TALLY || o->tally[1] == SAIGAGALENA_NO_TALLY)
-        return SAIGAGALENA_NO_TALLY;
-    return o->tally[0] + o->tally[1];
+    return 0;
 }
 
 uint64_t good_result(const struct operands *o, void *out)

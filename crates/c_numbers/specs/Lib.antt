@@ -1,3 +1,4 @@
 pub mod Bases
+pub mod Lengths
 pub mod Numbers
 pub mod Service

@@ -1,7 +1,7 @@
 // How many words a caller allocates, or the first number that applies.
 ghost use mathlib.Core.Path.{_≡_};
 ghost use Prim.Native.Nat.{_+_, _*_};
-ghost use Rattle.scheme.specs.Checks.{refusal};
+ghost use Rattle.scheme.specs.Checks.{refusal, dimensionFails};
 ghost use Rattle.checks.specs.Answers.{wordAnswer};
 ghost use Rattle.key_switch_key.specs.Answers.{parameterRows, keyWords};
 ghost use Rattle.c_numbers.specs.Lengths.{packedRows};
@@ -10,13 +10,20 @@ use checks::WordAnswer;
 use key_switch_key::LweKeySwitchingParameters;
 use primus_lattice::LweDimension;
 
+// 6.
+fn dimension_refused(n: usize) -> bool
+    ensures { λ r. ⌜ r ≡ dimensionFails n ⌝ }
+{
+    let dimension = LweDimension::given(n);
+    dimension.refused()
+}
+
 // 6, and 10 for more than n bodies.
 fn packed_refusal(n: usize, count: usize) -> u32
     ensures { λ r. ⌜ r ≡ refusal (packedRows n count) ⌝ }
 {
-    let dimension = LweDimension::given(n);
     let mut s = Sizes::NONE;
-    s.dimension = dimension.refused();
+    s.dimension = dimension_refused(n);
     s.input = n < count;
     s.first()
 }

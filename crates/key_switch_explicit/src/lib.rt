@@ -10,9 +10,9 @@ ghost use Rattle.key_switch_tile.specs.Tile.{Shaped, Reached, begun};
 
 mod accumulate;
 
+use gadget_constants::PreparedBasis;
+use gadget_digits::SignedDecomposer;
 use key_switch_tile::TILE;
-use primus_decompose::PreparedBasis;
-use primus_decompose::SignedDecomposer;
 
 // One level of one place: each row loses its own digit times the entry.
 fn level(

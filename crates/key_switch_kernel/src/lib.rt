@@ -5,8 +5,8 @@ ghost use lib.ListN.{length};
 ghost use Rattle.scheme.specs.Switch.{switchedBatch};
 ghost use Rattle.gadget_constants.specs.Prepared.{basisIn};
 ghost use Rattle.key_switch_tile.specs.Tile.{tile, Shaped};
+use gadget_constants::PreparedBasis;
 use key_switch_tile::TILE;
-use primus_decompose::PreparedBasis;
 use primus_lattice::LweDimension;
 use primus_reduce::Modulus;
 

@@ -27,15 +27,13 @@ use Rattle.scheme.proofs.Order.{passed, neither}
 use Rattle.primus_reduce.specs.Ring.{sizeOf, modulo}
 use Rattle.gadget_constants.specs.declared.prepared.PreparedBasis.{PreparedBasis}
 use Rattle.primus_decompose.specs.declared.primitive.basis.ApproxSignedBasis.{ApproxSignedBasis}
-use Rattle.primus_decompose.specs.declared.error.PreparedBasisAnswer.{PreparedBasisAnswer}
-use Rattle.primus_decompose.specs.declared.error.PreparedBasisAnswer.the-variants as A
-use Rattle.primus_decompose.specs.Answers.{basis, rows, weightWord, preparedBy, preparedAnswer, WhereReady}
+use Rattle.primus_decompose.specs.Answers.{basis, weightWord, preparedBy}
 use Rattle.gadget_constants.specs.Prepared.{Ready, basisIn}
-use Rattle.primus_lwe.specs.Answers.{replaced}
-use Rattle.primus_lwe.proofs.Laws.{modulo-stands}
+use Rattle.lwe_secret_key.specs.Runs.{replaced}
+use Rattle.lwe_secret_key.proofs.Laws.{modulo-stands}
 use Rattle.key_switch_key.specs.declared.parameters.LweKeySwitchingParameters.{LweKeySwitchingParameters}
 use Rattle.key_switch_key.specs.Answers.{nIn, mIn, levelsIn, generateRows, Generable}
-use Rattle.key_switch_key.proofs.Passed.{prepared-made, prepared-not, judged}
+use Rattle.key_switch_key.proofs.Passed.{judged}
 
 -- ---- the loop over the entries, from a secret s to a secret s′
 
@@ -113,12 +111,13 @@ weights-are b {p} ep r e j h =
     below = omega (arith, weight-below (basisIn p) (r .sound .accepted) j h, r .sound .accepted .covered, pow-mono {i = basisIn p .bits} {j = 32} (r .sound .bits-within))
 
 -- what the loop asks, with the numbers at hand; and that it writes the key of the parameters
-module _ {P : LweKeySwitchingParameters} {p : PreparedBasis} {masks : List ℕ} {errors : List ℤ} {room : ℕ} (g : Generable P p masks errors room) {m : ℕ} (em : m ≡ mIn P) where
+module _ {P : LweKeySwitchingParameters} {p : PreparedBasis} {masks : List ℕ} {errors : List ℤ} {room : ℕ} (g : Generable P masks errors room)
+    (r : Ready p × (p ≡ preparedBy (P .basis))) {m : ℕ} (em : m ≡ mIn P) where
   pub entering : {weights : List ℕ} → weights ≡ tabulate 16 (weightWord (P .basis)) → Entering p weights m masks errors room
   entering ew =
       rw em (record {
-        ready = g .ready;
-        weighted = weights-are (P .basis) (g .made) (g .ready) ew;
+        ready = r .0;
+        weighted = weights-are (P .basis) (r .1) (r .0) ew;
         fits = g .fits ∙ ap (λ k. k * (mIn P + 1)) (sym (g .errored));
         masked = g .masked ∙ ap (λ k. k * mIn P) (sym (g .errored));
       })
@@ -128,29 +127,20 @@ module _ {P : LweKeySwitchingParameters} {p : PreparedBasis} {masks : List ℕ} 
   unfolding generated
   entered-end s s′ f h =
       filling-end f h ∙ ap (λ k. rowsOf k (generatedEntry (basisIn p) m s s′ (signed errors) masks)) (g .errored)
-      ∙ ap₂ (λ x m. rowsOf (nIn P * levelsIn P) (generatedEntry (basisIn x) m s s′ (signed errors) masks)) (g .made) em
+      ∙ ap₂ (λ x m. rowsOf (nIn P * levelsIn P) (generatedEntry (basisIn x) m s s′ (signed errors) masks)) (r .1) em
 
 -- no number applies
 pub record Unrefused (P : LweKeySwitchingParameters) (E : ℕ) (key : Key) (s′ masks : List ℕ) (errors : List ℤ) (room : ℕ) : Type 0 where
   pub none : refusal (generateRows P E key s′ masks errors room) ≡ 0
 
-module _ {P : LweKeySwitchingParameters} {E : ℕ} {key : Key} {s′ masks : List ℕ} {errors : List ℤ} {room : ℕ} (u : Unrefused P E key s′ masks errors room)
-    {r : PreparedBasisAnswer} (er : (r ≡ preparedAnswer (P .basis)) × WhereReady r) where
-  accepted : refusal (rows (P .basis)) ≡ 0
-  accepted = judged P _ (u .none) .accepted
-
-  pub generates-ready : {k : ℕ} → r ≡ A.Refused k → ⊥
-  generates-ready f = prepared-not (P .basis) accepted er f
-
-  pub generable : {p : PreparedBasis} → r ≡ A.Ready p → Generable P p masks errors room
-  generable f =
-      let no = passed (generateRows P E key s′ masks errors room) (u .none) in
-      let twelve = neither (lengthFails (length masks) (nIn P * levelsIn P * mIn P)) (lengthFails (length errors) (nIn P * levelsIn P)) (no 12 tt) in
-      let made = prepared-made (P .basis) accepted er f in
-      record {
-        ready = made .1;
-        made = made .0;
-        fits = length-ok _ _ (no 11 tt);
-        masked = length-ok _ _ (twelve .0);
-        errored = length-ok _ _ (twelve .1);
-      }
+pub generable : {P : LweKeySwitchingParameters} {E : ℕ} {key : Key} {s′ masks : List ℕ} {errors : List ℤ} {room : ℕ}
+    → Unrefused P E key s′ masks errors room → Generable P masks errors room
+generable {P} {E} {key} {s′} {masks} {errors} {room} u =
+    let no = passed (generateRows P E key s′ masks errors room) (u .none) in
+    let twelve = neither (lengthFails (length masks) (nIn P * levelsIn P * mIn P)) (lengthFails (length errors) (nIn P * levelsIn P)) (no 12 tt) in
+    record {
+      accepted = judged P _ (u .none) .accepted;
+      fits = length-ok _ _ (no 11 tt);
+      masked = length-ok _ _ (twelve .0);
+      errored = length-ok _ _ (twelve .1);
+    }

@@ -1,16 +1,17 @@
 -- What the checks of parameters and of a key leave.
 -- Assumes nothing.
-use mathlib.Core.Path.{_≡_, refl, sym, ap, subst, _∙_}
-use mathlib.Core.Bool.{Bool, true, false, not, _||_}
+use mathlib.Core.Path.{_≡_, refl, sym, subst, _∙_}
+use mathlib.Core.Bool.{Bool, true, false, _||_}
 use mathlib.Core.List.{List, [], _++_}
-use Prim.Native.Nat.{ℕ, suc, _+_, _-_, _*_, _<_, _≤_}
+use Prim.Native.Nat.{ℕ, suc, _+_, _*_, _<_, _≤_}
 use native.Mathlib.Nat.{mul-le-mul-right, suc-mul}
 use native.Mathlib.Omega.{arith}
 use lib.Arith.{digits-lt}
 use lib.Dec.{eqb, leb}
 use lib.ListN.{length, take, drop}
-use borrow.Author.Tests.{eq-eqb, ne-eqb, eqb-true, le-leb, lt-leb, leb-false}
-use Rattle.scheme.specs.Switch.{entryOf}
+use borrow.Author.Tests.{eq-eqb, eqb-true, leb-false}
+use Rattle.scheme.specs.Numbers.{pick}
+use Rattle.scheme.specs.Switch.{entryNumber}
 use Rattle.scheme.specs.Checks.{Check, refusal, dimensionFails}
 use Rattle.scheme.proofs.Checks.{dimension-ok, length-ok}
 use Rattle.scheme.proofs.Order.{passed, passed-part, neither}
@@ -21,7 +22,9 @@ use Rattle.primus_decompose.specs.declared.error.PreparedBasisAnswer.the-varian
 use Rattle.primus_decompose.specs.Answers.{rows, preparedAnswer, preparedBy, WhereReady}
 use Rattle.gadget_constants.specs.Prepared.{Ready}
 use Rattle.key_switch_key.specs.declared.parameters.LweKeySwitchingParameters.{LweKeySwitchingParameters}
-use Rattle.key_switch_key.specs.Answers.{nIn, mIn, levelsIn, parameterRows, keyWords, entryRows, entryMissing, entryAnswer}
+use Rattle.key_switch_key.specs.Answers.{nIn, mIn, levelsIn, parameterRows, keyWords, entryRows, entryMissing, entryAnswer, entryPart}
+use Rattle.key_switch_key.specs.declared.key.EntryAnswer.{EntryAnswer}
+use Rattle.key_switch_key.specs.declared.key.EntryAnswer.the-variants as E
 
 -- ---- an accepted basis is prepared
 
@@ -58,47 +61,48 @@ judged P more e =
 
 -- ---- entries
 
--- the three ways to find an entry missing or not
-module _ (R n i L j : ℕ) where
-  pub missing-refused : (R ≡ 0 → ⊥) → true ≡ (not (eqb R 0) || leb n i || leb L j)
-  missing-refused h = rw (ne-eqb R 0 h)
+-- neither place nor level is past the last
+present : (n i L j : ℕ) → (leb n i || leb L j) ≡ false → (i < n) × (j < L)
+present n i L j h = let e = neither (leb L j) (leb n i) h in (leb-false n i (e .1), leb-false L j (e .0))
 
-  pub missing-place : R ≡ 0 → n ≤ i → true ≡ (not (eqb R 0) || leb n i || leb L j)
-  missing-place e h = rw (eq-eqb R 0 e, le-leb n i h)
+module _ (P : LweKeySwitchingParameters) (len i j : ℕ) (z : refusal (entryRows P len) ≡ 0) where
+  pub entry-missing : entryMissing P i j ≡ true → E.Missing ≡ entryAnswer P len i j
+  entry-missing h = rw (eq-eqb (refusal (entryRows P len)) 0 z, h)
 
-  pub missing-level : R ≡ 0 → i < n → leb L j ≡ (not (eqb R 0) || leb n i || leb L j)
-  missing-level e h = rw (eq-eqb R 0 e, lt-leb n i h)
+  module _ (h : entryMissing P i j ≡ false) {L m : ℕ} (el : L ≡ levelsIn P) (em : m ≡ mIn P) where
+    -- the entry lies within the key
+    pub entry-within : ((i * L + j) * (m + 1) + (m + 1) ≤ len) × (m ≤ 2048)
+    entry-within =
+        let g = present (nIn P) i (levelsIn P) j h in
+        let k : len ≡ keyWords P = length-ok _ _ (passed (entryRows P len) z 9 tt) in
+        rw (el, em) (within (nIn P) (levelsIn P) (mIn P) (g .0) (g .1) k, judged P _ z .output-most)
+      where
+        within : (n L m : ℕ) → i < n → j < L → len ≡ n * L * (m + 1) → (i * L + j) * (m + 1) + (m + 1) ≤ len
+        within n L m a b e =
+            let k : suc (i * L + j) * (m + 1) ≤ n * L * (m + 1) = mul-le-mul-right (m + 1) (digits-lt a b) in
+            omega (arith, k, suc-mul (i * L + j) (m + 1))
 
-  present : (not (eqb R 0) || leb n i || leb L j) ≡ false → (R ≡ 0) × (i < n) × (j < L)
-  present = go (eqb R 0) refl (leb n i) refl (leb L j) refl
-    where
-      go : (a : Bool) → eqb R 0 ≡ a → (b : Bool) → leb n i ≡ b → (c : Bool) → leb L j ≡ c → (not a || b || c) ≡ false → (R ≡ 0) × (i < n) × (j < L)
-      go true e false f false g h = (eqb-true R 0 e, leb-false n i f, leb-false L j g)
-      go true e false f true g h = let z : true ≡ false = h in let k : _≡_ {A = ℕ} 0 1 = cc in absurd (omega arith)
-      go true e true f c g h = let z : true ≡ false = h in let k : _≡_ {A = ℕ} 0 1 = cc in absurd (omega arith)
-      go false e b f c g h = let z : true ≡ false = h in let k : _≡_ {A = ℕ} 0 1 = cc in absurd (omega arith)
+    pub entry-at : E.At ((i * L + j) * (m + 1)) ≡ entryAnswer P len i j
+    entry-at = rw (eq-eqb (refusal (entryRows P len)) 0 z, h, el, em)
 
-module _ (P : LweKeySwitchingParameters) (key : List ℕ) (i j : ℕ) (h : entryMissing P (length key) i j ≡ false) (L m : ℕ) (el : L ≡ levelsIn P) (em : m ≡ mIn P) where
-  -- the entry lies within the key
-  pub entry-within : ((i * L + j) * (m + 1) + (m + 1) ≤ length key) × (m ≤ 2048)
-  entry-within =
-      let g = present (refusal (entryRows P (length key))) (nIn P) i (levelsIn P) j h in
-      let k : length key ≡ keyWords P = length-ok _ _ (passed (entryRows P (length key)) (g .0) 9 tt) in
-      rw (el, em) (within (nIn P) (levelsIn P) (mIn P) (g .1) (g .2) k, judged P _ (g .0) .output-most)
-    where
-      within : (n L m : ℕ) → i < n → j < L → length key ≡ n * L * (m + 1) → (i * L + j) * (m + 1) + (m + 1) ≤ length key
-      within n L m a b e =
-          let k : suc (i * L + j) * (m + 1) ≤ n * L * (m + 1) = mul-le-mul-right (m + 1) (digits-lt a b) in
-          omega (arith, k, suc-mul (i * L + j) (m + 1))
+-- what an answer says: from a place on the key has m + 1 words, which are the entry's; any other answer goes with the empty part
+pub record Found (P : LweKeySwitchingParameters) (key : List ℕ) (i j a : ℕ) : Type 0 where
+  pub within : a + (mIn P + 1) ≤ length key
+  pub narrow : mIn P ≤ 2048
+  pub part : take (mIn P + 1) (drop a key) ≡ entryPart P key i j
 
-  pub entry-is : take ((i * L + j) * (m + 1) + (m + 1) - (i * L + j) * (m + 1)) (drop ((i * L + j) * (m + 1)) key) ≡ entryAnswer P key i j
-  entry-is = ap (λ k. take k (drop ((i * L + j) * (m + 1)) key)) (wide ((i * L + j) * (m + 1)) (m + 1)) ∙ sym picked
-    where
-      wide : (a w : ℕ) → a + w - a ≡ w
-      wide a w = omega arith
+abbrev pub Told : LweKeySwitchingParameters → List ℕ → ℕ → ℕ → EntryAnswer → Type 0
+Told P key i j (E.At a) = Found P key i j a
+Told P key i j E.Missing = [] ≡ entryPart P key i j
+Told P key i j (E.Refused r) = [] ≡ entryPart P key i j
 
-      picked : entryAnswer P key i j ≡ entryOf L m key i j
-      picked = rw (h, el, em)
-
-pub entry-none : (P : LweKeySwitchingParameters) (key : List ℕ) (i j : ℕ) → entryMissing P (length key) i j ≡ true → entryAnswer P key i j ≡ []
-entry-none P key i j h = rw h
+pub entry-told : (P : LweKeySwitchingParameters) (key : List ℕ) (i j : ℕ) {r : EntryAnswer} → r ≡ entryAnswer P (length key) i j → Told P key i j r
+entry-told P key i j h = subst (Told P key i j) (sym h) (go (eqb (refusal (entryRows P (length key))) 0) refl (entryMissing P i j) refl)
+  where
+    go : (b : Bool) → eqb (refusal (entryRows P (length key))) 0 ≡ b → (c : Bool) → entryMissing P i j ≡ c
+        → Told P key i j (pick b (pick c E.Missing (E.At (entryNumber (levelsIn P) i j * (mIn P + 1)))) (E.Refused (refusal (entryRows P (length key)))))
+    go true e false f =
+        let w = entry-within P (length key) i j (eqb-true _ 0 e) f refl refl in
+        record { within = w .0; narrow = w .1; part = rw (e, f) }
+    go true e true f = rw (e, f)
+    go false e c f = rw e

@@ -1,6 +1,6 @@
 -- What parameters and keys are judged by, and what the calls promise.
 use mathlib.Core.Path.{_≡_}
-use mathlib.Core.Bool.{Bool, not, _||_}
+use mathlib.Core.Bool.{Bool, _||_}
 use mathlib.Core.List.{List, [], _∷_, _++_}
 use Prim.Native.Nat.{ℕ, _+_, _*_}
 use lib.Dec.{eqb, leb}
@@ -8,14 +8,14 @@ use lib.IntN.{ℤ}
 use lib.ListN.{length}
 use Rattle.scheme.specs.Numbers.{pick}
 use Rattle.scheme.specs.Lwe.{Key, words, signed, secretOf, keyLength}
-use Rattle.scheme.specs.Switch.{entryOf, generated}
+use Rattle.scheme.specs.Switch.{entryNumber, entryOf, generated}
 use Rattle.scheme.specs.Checks.{Check, row, refusal, Writes, dimensionFails, lengthFails}
 use Rattle.scheme.specs.Checks.{errorLimitFails, wordsFail, keyFails, errorsFail}
 use Rattle.primus_reduce.specs.Ring.{sizeOf}
 use Rattle.primus_reduce.specs.declared.modulus.Modulus.{Modulus}
-use Rattle.primus_decompose.specs.Answers.{basis, rows, basisWith, preparedBy}
-use Rattle.gadget_constants.specs.Prepared.{Ready}
-use Rattle.gadget_constants.specs.declared.prepared.PreparedBasis.{PreparedBasis}
+use Rattle.primus_decompose.specs.Answers.{basis, rows, basisWith}
+use Rattle.key_switch_key.specs.declared.key.EntryAnswer.{EntryAnswer}
+use Rattle.key_switch_key.specs.declared.key.EntryAnswer.the-variants as E
 use Rattle.key_switch_key.specs.declared.parameters.LweKeySwitchingParameters.{LweKeySwitchingParameters}
 use Rattle.key_switch_key.specs.declared.parameters.LweKeySwitchingParametersAnswer.{
   LweKeySwitchingParametersAnswer,
@@ -66,13 +66,23 @@ keyWords P = nIn P * levelsIn P * (mIn P + 1)
 abbrev pub entryRows : LweKeySwitchingParameters → ℕ → List Check
 entryRows P len = parameterRows P ++ row (lengthFails len (keyWords P)) 9 ∷ []
 
--- these papers leave open what a key that is refused, or one without such an entry, hands out: an empty part
-abbrev pub entryMissing : LweKeySwitchingParameters → ℕ → ℕ → ℕ → Bool
-entryMissing P len i j = not (eqb (refusal (entryRows P len)) 0) || leb (nIn P) i || leb (levelsIn P) j
+-- these papers leave open what is answered of an entry that a key does not have: no number, and no place
+abbrev pub entryMissing : LweKeySwitchingParameters → ℕ → ℕ → Bool
+entryMissing P i j = leb (nIn P) i || leb (levelsIn P) j
 
--- "one entry is handed out as that part of the caller's key"
-abbrev pub entryAnswer : LweKeySwitchingParameters → List ℕ → ℕ → ℕ → List ℕ
-entryAnswer P key i j = pick (entryMissing P (length key) i j) [] (entryOf (levelsIn P) (mIn P) key i j)
+-- where entry (i, j) of a key of `len` words begins
+abbrev pub entryAnswer : LweKeySwitchingParameters → ℕ → ℕ → ℕ → EntryAnswer
+entryAnswer P len i j =
+    pick (eqb (refusal (entryRows P len)) 0)
+    (pick (entryMissing P i j) E.Missing (E.At (entryNumber (levelsIn P) i j * (mIn P + 1))))
+    (E.Refused (refusal (entryRows P len)))
+
+-- "one entry is handed out as that part of the caller's key"; an empty part where it is missing, or the key refused
+abbrev pub entryPart : LweKeySwitchingParameters → List ℕ → ℕ → ℕ → List ℕ
+entryPart P key i j =
+    pick (eqb (refusal (entryRows P (length key))) 0)
+    (pick (entryMissing P i j) [] (entryOf (levelsIn P) (mIn P) key i j))
+    []
 
 -- a key from the secret `key` to the secret s′, with lent masks and errors within ±E, into `room` words
 abbrev pub generateRows : LweKeySwitchingParameters → ℕ → Key → List ℕ → List ℕ → List ℤ → ℕ → List Check
@@ -97,11 +107,9 @@ pub record Generates (P : LweKeySwitchingParameters) (E : ℕ) (key : Key) (s′
       Writes (generateRows P E key s′ masks errors (length before))
       (generated (basis (P .basis)) (nIn P) (mIn P) (secretOf key) (words s′) (signed errors) masks) before r after
 
--- what writing the entries asks, with the basis prepared
-pub record Generable (P : LweKeySwitchingParameters) (p : PreparedBasis) (masks : List ℕ) (errors : List ℤ) (room : ℕ)
-    : Type 0 where
-  pub ready : Ready p
-  pub made : p ≡ preparedBy (P .basis)
+-- what writing the entries asks
+pub record Generable (P : LweKeySwitchingParameters) (masks : List ℕ) (errors : List ℤ) (room : ℕ) : Type 0 where
+  pub accepted : refusal (rows (P .basis)) ≡ 0
   pub fits : room ≡ keyWords P
   pub masked : length masks ≡ nIn P * levelsIn P * mIn P
   pub errored : length errors ≡ nIn P * levelsIn P

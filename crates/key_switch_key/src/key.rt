@@ -7,34 +7,32 @@ ghost use Rattle.scheme.specs.Lwe.{Words, Signed, words as wordsOf, signed as e
 ghost use Rattle.scheme.specs.Switch.{generated};
 ghost use Rattle.scheme.specs.Checks.{refusal, lengthFails, errorLimitFails, wordsFail, keyFails};
 ghost use Rattle.primus_decompose.specs.Answers.{basis};
-ghost use Rattle.primus_lwe.specs.Key.{keyOf};
-ghost use Rattle.key_switch_key.specs.Answers.{qIn, nIn, mIn, levelsIn, entryMissing, entryAnswer};
+ghost use Rattle.lwe_secret_key.specs.Key.{keyOf};
+ghost use Rattle.key_switch_key.specs.Answers.{qIn, nIn, mIn, levelsIn, entryRows, entryAnswer, entryPart};
 ghost use Rattle.key_switch_key.specs.Answers.{generateRows, Generates, Generable};
 use crate::parameters::LweKeySwitchingParameters;
 use checks::Values;
-use primus_decompose::PreparedBasis;
-use primus_decompose::PreparedBasisAnswer;
-use primus_lwe::KeyForm;
-use primus_lwe::encrypt_row;
-use primus_lwe::key_residue;
+use lwe_secret_key::KeyForm;
+use lwe_secret_key::encrypt_row;
+use lwe_secret_key::key_residue;
 
 // Its words are lent.
 pub struct LweKeySwitchingKey {}
 
-// Whether 1 to 6 or 9 refuse, or there is no entry (i, j).
-fn entry_missing(params: LweKeySwitchingParameters, len: usize, i: usize, j: usize) -> bool
-    ensures { λ r. ⌜ r ≡ entryMissing params len i j ⌝ }
+// Where the m + 1 words of an entry begin in the key, that there is no such entry, or the first number that applies.
+pub enum EntryAnswer {
+    At(usize),
+    Missing,
+    Refused(u32),
+}
+
+// 1 to 6, 9
+fn entry_refusal(params: LweKeySwitchingParameters, len: usize) -> u32
+    ensures { λ r. ⌜ r ≡ refusal (entryRows params len) ⌝ }
 {
-    let n = params.input_dimension;
     let mut s = params.sizes();
     s.key = params.key_differs(len);
-    if s.first() != 0 {
-        return true;
-    }
-    if n.get() <= i {
-        return true;
-    }
-    params.level_count() <= j
+    s.first()
 }
 
 // 9: the input key does not have n numbers, or the output key not m.
@@ -50,7 +48,7 @@ fn keys_differ(
 {
     let n = params.input_dimension;
     let m = params.output_dimension;
-    m.differs(output_key) | primus_lwe::key_differs(form, words, signed, n)
+    m.differs(output_key) | lwe_secret_key::key_differs(form, words, signed, n)
 }
 
 // 12: there are not n × L errors, or not m mask words for each. No product of three: it could overflow.
@@ -85,7 +83,8 @@ fn words_refused(
         || keyFails (qIn params) (keyOf form (now (words .entry)) (now (signed .entry)))) ⌝ }
 {
     let modulus = params.basis.modulus();
-    params.words_refused(output_key, masks) | primus_lwe::key_refused(form, modulus, words, signed)
+    params.words_refused(output_key, masks)
+        | lwe_secret_key::key_refused(form, modulus, words, signed)
 }
 
 fn generate_refusal(
@@ -128,13 +127,13 @@ fn write_entries(
     output_key: &[u32],
     masks: &[u32],
     errors: &[i32],
-    p: PreparedBasis,
 )
-    requires { ⌜ Generable params p (now masks) (now errors) (length (now out)) ⌝ }
+    requires { ⌜ Generable params (now masks) (now errors) (length (now out)) ⌝ }
     ensures { λ _. ⌜ now (out .exit) ≡ generated (basis (params .basis)) (nIn params) (mIn params)
         (secretOf (keyOf form (now (words .entry)) (now (signed .entry))))
         (wordsOf (now («output_key» .entry))) (errorsOf (now (errors .entry))) (now (masks .entry)) ⌝ }
 {
+    let p = params.prepared();
     let modulus = p.modulus;
     let m = params.output_dimension.get();
     let weights = params.basis.scalars();
@@ -160,7 +159,7 @@ fn write_entries(
     }
 }
 
-// A key from an input key of either form. The basis, which has been judged, does not refuse.
+// A key from an input key of either form.
 fn generate_from(
     params: LweKeySwitchingParameters,
     error_limit: u32,
@@ -190,39 +189,39 @@ fn generate_from(
     if r != 0 {
         return r;
     }
-    let prepared = params.basis.prepare();
-    match prepared {
-        PreparedBasisAnswer::Ready(p) => {
-            write_entries(
-                out,
-                params,
-                form,
-                words,
-                signed,
-                output_key,
-                masks,
-                errors,
-                p,
-            );
-        }
-        PreparedBasisAnswer::Refused(_) => {}
-    }
+    write_entries(out, params, form, words, signed, output_key, masks, errors);
     0
 }
 
 impl LweKeySwitchingKey {
-    // Entry (i, j), as that part of the lent key; an empty part where 1 to 6 or 9 refuse, or there is no such entry.
-    pub fn entry(params: LweKeySwitchingParameters, key: &[u32], i: usize, j: usize) -> &[u32]
-        ensures { λ r. ⌜ now r ≡ entryAnswer params (now (key .entry)) i j ⌝ }
+    // Where in the lent key entry (i, j) begins; `Missing` where i ≥ n or j ≥ L. Refuses by 1 to 6, 9.
+    pub fn entry(params: LweKeySwitchingParameters, key: &[u32], i: usize, j: usize) -> EntryAnswer
+        ensures { λ r. ⌜ r ≡ entryAnswer params (length (now (key .entry))) i j ⌝ }
     {
-        if entry_missing(params, key.len(), i, j) {
-            return &key[0..0];
+        let r = entry_refusal(params, key.len());
+        if r != 0 {
+            return EntryAnswer::Refused(r);
         }
+        let n = params.input_dimension;
         let levels = params.level_count();
+        if (n.get() <= i) | (levels <= j) {
+            return EntryAnswer::Missing;
+        }
         let m = params.output_dimension;
         let width = m.get() + 1;
-        let start = (i * levels + j) * width;
-        let end = start + width;
+        EntryAnswer::At((i * levels + j) * width)
+    }
+
+    // Entry (i, j), as that part of the lent key; an empty part where `entry` gives no place.
+    pub fn entry_words(params: LweKeySwitchingParameters, key: &[u32], i: usize, j: usize) -> &[u32]
+        ensures { λ r. ⌜ now r ≡ entryPart params (now (key .entry)) i j ⌝ }
+    {
+        let answer = LweKeySwitchingKey::entry(params, key, i, j);
+        let EntryAnswer::At(start) = answer else {
+            return &key[0..0];
+        };
+        let m = params.output_dimension;
+        let end = start + (m.get() + 1);
         &key[start..end]
     }
 

@@ -2,6 +2,7 @@
 mod key;
 mod parameters;
 
+pub use key::EntryAnswer;
 pub use key::LweKeySwitchingKey;
 pub use parameters::LweKeySwitchingParameters;
 pub use parameters::LweKeySwitchingParametersAnswer;

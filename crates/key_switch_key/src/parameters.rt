@@ -4,9 +4,12 @@ ghost use mathlib.Core.Bool.{_||_};
 ghost use Prim.Native.Nat.{_+_, _*_};
 ghost use Rattle.scheme.specs.Checks.{refusal, dimensionFails, lengthFails, wordsFail};
 ghost use Rattle.checks.specs.Judged.{JudgesSizes};
+ghost use Rattle.primus_decompose.specs.Answers.{rows, preparedBy};
+ghost use Rattle.gadget_constants.specs.Prepared.{Ready};
 ghost use Rattle.key_switch_key.specs.Answers.{qIn, nIn, mIn, levelsIn, keyWords};
 ghost use Rattle.key_switch_key.specs.Answers.{parameterRows, parametersAnswer, parametersWith};
 use checks::Sizes;
+use gadget_constants::PreparedBasis;
 use primus_decompose::ApproxSignedBasis;
 use primus_lattice::LweDimension;
 use primus_reduce::Modulus;
@@ -110,6 +113,16 @@ impl LweKeySwitchingParameters {
         let basis = self.basis;
         let levels = basis.level_count();
         levels.get()
+    }
+
+    // The basis with its constants, for calls that have judged it.
+    pub(crate) fn prepared(self) -> PreparedBasis
+        requires { ⌜ refusal (rows (self .basis)) ≡ 0 ⌝ }
+        ensures { λ p. ⌜ Ready p × (p ≡ preparedBy (self .basis)) ⌝ }
+    {
+        let basis = self.basis;
+        let log = basis.log_basis();
+        gadget_constants::prepare(basis.modulus(), log.get(), self.level_count())
     }
 
     // 9, 11: `len` is not the length of a key.

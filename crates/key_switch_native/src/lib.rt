@@ -8,9 +8,9 @@ ghost use Rattle.primus_reduce.specs.declared.modulus.Modulus.the-variants.{Nat
 ghost use Rattle.gadget_constants.specs.Prepared.{basisIn};
 ghost use Rattle.key_switch_tile.specs.Rows.{Less};
 ghost use Rattle.key_switch_tile.specs.Tile.{tile, Level, Leveled, Place, Placed, Shaped, begun};
+use gadget_constants::PreparedBasis;
+use gadget_digits::SignedDecomposer;
 use key_switch_tile::TILE;
-use primus_decompose::PreparedBasis;
-use primus_decompose::SignedDecomposer;
 use primus_reduce::wrapping_mul;
 
 // x − d × y

@@ -6,8 +6,8 @@ ghost use lib.Dec.{eqb};
 ghost use lib.ListN.{length};
 ghost use Rattle.scheme.specs.Numbers.{pick, tabulate};
 ghost use Rattle.key_switch_tile.specs.Tile.{tile, Lanes, begun};
-use primus_decompose::PreparedBasis;
-use primus_decompose::SignedDecomposer;
+use gadget_constants::PreparedBasis;
+use gadget_digits::SignedDecomposer;
 
 // The most ciphertexts that go through the key together.
 pub const TILE: usize = 8;

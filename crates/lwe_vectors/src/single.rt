@@ -33,11 +33,12 @@ fn under_secret(h: Head, a: &[u32], b: &[u32], d: &[i32], e: &[i32], out: &mut [
 fn under_public(h: Head, a: &[u32], d: &[i32], e: &[i32], out: &mut [u32]) -> LweAnswer {
     let p = parameters::encryption(h);
     let params = parameters::message(h);
+    let embedding = h.embedding;
     let x = h.value;
     if h.kind == 25 {
         return LwePublicKey::encrypt_encoded_to(p, a, e, d, x, out);
     }
-    LwePublicKey::encrypt_message_to(params, h.embedding, a, e, d, x, out)
+    LwePublicKey::encrypt_message_to(params, embedding, a, e, d, x, out)
 }
 
 // A public key from a secret: masks b, errors e.

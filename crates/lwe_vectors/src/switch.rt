@@ -4,6 +4,7 @@ use crate::said;
 use crate::said::Said;
 use key_switch::key_switch_batch_to;
 use key_switch::key_switch_to;
+use key_switch_key::EntryAnswer;
 use key_switch_key::LweKeySwitchingKey;
 use key_switch_key::LweKeySwitchingParameters;
 use key_switch_key::LweKeySwitchingParametersAnswer;
@@ -31,21 +32,42 @@ fn tried(params: LweKeySwitchingParameters) -> u32 {
     }
 }
 
-// The entry, where it is as long as the buffer; else no record is equal.
-fn entry(params: LweKeySwitchingParameters, key: &[u32], i: u32, j: u32, out: &mut [u32]) -> u32 {
-    let part = LweKeySwitchingKey::entry(params, key, i as usize, j as usize);
+// The answer of a record whose entry is not there.
+const MISSING: u32 = 0xffff_ffff;
+
+// A place goes with a part as long as the buffer, which is copied there; else no record is equal.
+fn placed(start: usize, part: &[u32], out: &mut [u32]) -> Said {
     if part.len() != out.len() {
-        return 999;
+        return said::nothing();
     }
     let mut k = 0;
     while k < out.len() {
         out[k] = part[k];
         k += 1;
     }
-    0
+    said::value((start % 0x1_0000_0000) as u32)
 }
 
-// A key: secret a or d, output secret c, masks b, errors e. A switch: key a, input b. An entry: key a, place, level.
+// Any other answer goes with an empty part.
+fn unplaced(answer: Said, part: &[u32]) -> Said {
+    if part.len() != 0 {
+        return said::nothing();
+    }
+    answer
+}
+
+// An entry: key a, place, level. What both calls say of it.
+fn entry(params: LweKeySwitchingParameters, key: &[u32], i: u32, j: u32, out: &mut [u32]) -> Said {
+    let answer = LweKeySwitchingKey::entry(params, key, i as usize, j as usize);
+    let part = LweKeySwitchingKey::entry_words(params, key, i as usize, j as usize);
+    match answer {
+        EntryAnswer::At(start) => placed(start, part, out),
+        EntryAnswer::Missing => unplaced(said::value(MISSING), part),
+        EntryAnswer::Refused(r) => unplaced(said::refused(r), part),
+    }
+}
+
+// A key: secret a or d, output secret c, masks b, errors e. A switch: key a, input b.
 fn call(
     h: Head,
     params: LweKeySwitchingParameters,
@@ -64,7 +86,7 @@ fn call(
         29 => said::number(LweKeySwitchingKey::generate_signed(params, limit, d, c, b, e, out)),
         30 => said::written(key_switch_to(params, a, b, out), said::none()),
         31 => said::written(key_switch_batch_to(params, a, b, out), said::none()),
-        32 => said::number(entry(params, a, h.value, h.t, out)),
+        32 => entry(params, a, h.value, h.t, out),
         _ => said::nothing(),
     }
 }

@@ -49,7 +49,9 @@ fn say_tally(tally: Tally) {
             io::print_decimal(STDOUT_FILENO, a);
             io::write_all(STDOUT_FILENO, b"\n");
         }
-        Tally::Absent => io::write_all(STDOUT_FILENO, b"no tally\n"),
+        Tally::Absent => {
+            io::write_all(STDOUT_FILENO, b"no tally\n");
+        }
     }
 }
 

@@ -160,13 +160,3 @@ pub record Codable (t : ℕ) (m : Modulus) : Type 0 where
   pub modulus-ok : modulusFails (meant m) ≡ false
   pub plaintext-ok : plaintextFails t ≡ false
   pub small-ok : smallFails t (meant m) ≡ false
-
--- what writing a run asks, of n and the lengths of masks, errors and output: a row for each error
-pub record Run (q n masks errors room : ℕ) : Type 0 where
-  pub positive : 0 < q
-  pub each : masks ≡ errors * n
-  pub rooms : room ≡ errors * (n + 1)
-
--- xs with its n words from `at` on replaced by ys
-abbrev pub replaced : List ℕ → ℕ → ℕ → List ℕ → List ℕ
-replaced xs at n ys = take at xs ++ (ys ++ drop n (drop at xs))

@@ -1,16 +1,13 @@
 // LWE encryption over words of 32 bits. Random masks and errors are lent.
-mod batch;
 mod parameter;
 mod secret_key;
 
-pub use batch::encrypt_row;
 pub use parameter::LweDecryptionParameters;
 pub use parameter::LweEncryptionParameters;
 pub use parameter::LweEncryptionParametersAnswer;
 pub use parameter::LweParameters;
 pub use parameter::LweParametersAnswer;
 pub use parameter::LwePhaseParameters;
-pub use secret_key::KeyForm;
 pub use secret_key::decrypt_message;
 pub use secret_key::decrypt_message_signed;
 pub use secret_key::decrypt_phase;
@@ -19,10 +16,3 @@ pub use secret_key::encrypt_encoded_signed_to;
 pub use secret_key::encrypt_encoded_to;
 pub use secret_key::encrypt_message_signed_to;
 pub use secret_key::encrypt_message_to;
-pub use secret_key::encrypt_to;
-pub use secret_key::error_residue;
-pub use secret_key::key_differs;
-pub use secret_key::key_or_words_refused;
-pub use secret_key::key_refused;
-pub use secret_key::key_residue;
-pub use secret_key::phase;

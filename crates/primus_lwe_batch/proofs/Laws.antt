@@ -18,7 +18,8 @@ use Rattle.primus_reduce.specs.declared.modulus.Modulus.{Modulus}
 use Rattle.primus_lwe.specs.declared.parameter.LwePhaseParameters.{LwePhaseParameters}
 use Rattle.primus_lwe.specs.declared.parameter.LweDecryptionParameters.{LweDecryptionParameters}
 use Rattle.primus_lwe.specs.declared.parameter.LweParameters.{LweParameters}
-use Rattle.primus_lwe.specs.Answers.{Codable, Run}
+use Rattle.primus_lwe.specs.Answers.{Codable}
+use Rattle.lwe_secret_key.specs.Runs.{Run}
 use Rattle.primus_lwe.proofs.Coded.{phase-below}
 use Rattle.primus_lwe_batch.specs.Answers.{encryptBatchRows, phasesRows, decryptBatchRows, batchPhase, Rowwise}
 

@@ -8,22 +8,23 @@ ghost use Rattle.scheme.specs.Numbers.{tabulate};
 ghost use Rattle.scheme.specs.Lwe.{Words, words, signed, encryptedRows};
 ghost use Rattle.scheme.specs.Checks.{refusal, messagesFail};
 ghost use Rattle.primus_reduce.specs.Ring.{sizeOf};
-ghost use Rattle.primus_lwe.specs.Answers.{judgedRows, Codable, encodings, Run};
+ghost use Rattle.primus_lwe.specs.Answers.{judgedRows, Codable, encodings};
+ghost use Rattle.lwe_secret_key.specs.Runs.{Run};
 ghost use Rattle.primus_lwe_batch.specs.Answers.{encryptBatchRows, EncryptsBatch, Rowwise, batchPhase};
 ghost use Rattle.primus_lwe_batch.specs.Answers.{batchRows, TakesPhases, DecryptsBatch};
 use crate::sizes;
 use checks::Values;
+use lwe_secret_key::KeyForm;
+use lwe_secret_key::encrypt_row;
+use lwe_secret_key::phase;
 use lwe_tag::LweAnswer;
 use lwe_tag::LweTag;
 use primus_encoding::PlaintextEmbedding;
 use primus_encoding::RoundedCodec;
 use primus_encoding::encode_or_zero;
-use primus_lwe::KeyForm;
 use primus_lwe::LweDecryptionParameters;
 use primus_lwe::LweParameters;
 use primus_lwe::LwePhaseParameters;
-use primus_lwe::encrypt_row;
-use primus_lwe::phase;
 use primus_reduce::Modulus;
 
 // A row for each message.

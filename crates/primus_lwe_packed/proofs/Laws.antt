@@ -29,7 +29,7 @@ use Rattle.primus_lwe.specs.declared.parameter.LwePhaseParameters.{LwePhasePara
 use Rattle.primus_lwe.specs.declared.parameter.LweDecryptionParameters.{LweDecryptionParameters}
 use Rattle.primus_lwe.specs.Answers.{Codable, encodings}
 use Rattle.primus_lwe.proofs.Coded.{encoded-at}
-use Rattle.primus_lwe.proofs.Laws.{modulo-stands}
+use Rattle.lwe_secret_key.proofs.Laws.{modulo-stands}
 use Rattle.primus_lwe_packed.specs.declared.packed.Packing.the-variants.{Messages}
 use Rattle.primus_lwe_packed.specs.Packing.{Packable, plaintexts}
 use Rattle.primus_lwe_packed.specs.Answers.{packedRows, packedMessageRows, packedPhaseRows, packedDecryptRows}

@@ -12,6 +12,7 @@ ghost use Rattle.primus_lwe_packed.specs.Packing.{Packable, plaintextOf,
 ghost use Rattle.primus_lwe_packed.specs.Answers.{packedRows, EncryptsPacked};
 ghost use Rattle.primus_lwe_packed.specs.Answers.{packedPhaseRows, TakesPackedPhases};
 use checks::Values;
+use lwe_secret_key::error_residue;
 use lwe_tag::LweAnswer;
 use lwe_tag::LweTag;
 use primus_encoding::PlaintextEmbedding;
@@ -20,7 +21,6 @@ use primus_lattice::LweDimension;
 use primus_lattice::packed_refused;
 use primus_lwe::LweEncryptionParameters;
 use primus_lwe::LwePhaseParameters;
-use primus_lwe::error_residue;
 use primus_reduce::Modulus;
 
 // What is packed: encoded plaintexts, or messages below t.

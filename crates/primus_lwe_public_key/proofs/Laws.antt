@@ -31,8 +31,8 @@ use Rattle.primus_encoding.specs.declared.PlaintextEmbedding.{PlaintextEmbeddin
 use Rattle.primus_encoding.proofs.Laws.{encode-passed}
 use Rattle.primus_lwe.specs.declared.parameter.LweEncryptionParameters.{LweEncryptionParameters}
 use Rattle.primus_lwe.specs.declared.parameter.LweParameters.{LweParameters}
-use Rattle.primus_lwe.specs.Answers.{replaced}
-use Rattle.primus_lwe.proofs.Laws.{modulo-stands, row-is}
+use Rattle.lwe_secret_key.specs.Runs.{replaced}
+use Rattle.lwe_secret_key.proofs.Laws.{modulo-stands, row-is}
 use Rattle.primus_lwe_public_key.specs.Public.{sign, plusTimes, startWord, Public}
 use Rattle.primus_lwe_public_key.specs.Answers.{generateRows, publicRows, publicMessageRows}
 

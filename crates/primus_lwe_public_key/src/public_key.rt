@@ -6,22 +6,22 @@ ghost use lib.ListN.{length};
 ghost use Rattle.scheme.specs.Lwe.{Words, Signed};
 ghost use Rattle.scheme.specs.Checks.{refusal, lengthFails, wordFails, wordsFail, errorsFail, coefficientsFail};
 ghost use Rattle.primus_reduce.specs.Ring.{sizeOf};
-ghost use Rattle.primus_lwe.specs.Key.{keyOf};
+ghost use Rattle.lwe_secret_key.specs.Key.{keyOf};
 ghost use Rattle.primus_lwe_public_key.specs.Answers.{generateRows, GeneratesPublicKey};
 ghost use Rattle.primus_lwe_public_key.specs.Answers.{publicRows, EncryptsPublic};
 ghost use Rattle.primus_lwe_public_key.specs.Answers.{publicMessageRows, EncryptsPublicMessage};
 use crate::rows;
 use checks::Values;
+use lwe_secret_key::KeyForm;
+use lwe_secret_key::key_differs;
+use lwe_secret_key::key_or_words_refused;
 use lwe_tag::LweAnswer;
 use lwe_tag::LweTag;
 use primus_encoding::PlaintextEmbedding;
 use primus_encoding::encode_or_zero;
 use primus_lattice::LweDimension;
-use primus_lwe::KeyForm;
 use primus_lwe::LweEncryptionParameters;
 use primus_lwe::LweParameters;
-use primus_lwe::key_differs;
-use primus_lwe::key_or_words_refused;
 use primus_reduce::Modulus;
 
 // Its words are lent: n rows of n + 1.

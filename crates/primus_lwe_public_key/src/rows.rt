@@ -8,11 +8,11 @@ ghost use Rattle.scheme.specs.Numbers.{tabulate};
 ghost use Rattle.scheme.specs.Lwe.{signed as errorsOf, secretOf, publicKey, publicEncrypted};
 ghost use Rattle.scheme.specs.Switch.{Below};
 ghost use Rattle.primus_reduce.specs.Ring.{sizeOf};
-ghost use Rattle.primus_lwe.specs.Key.{keyOf};
+ghost use Rattle.lwe_secret_key.specs.Key.{keyOf};
 ghost use Rattle.primus_lwe_public_key.specs.Public.{sign, plusTimes, startWord, Public};
-use primus_lwe::KeyForm;
-use primus_lwe::encrypt_to;
-use primus_lwe::error_residue;
+use lwe_secret_key::KeyForm;
+use lwe_secret_key::encrypt_to;
+use lwe_secret_key::error_residue;
 use primus_reduce::Modulus;
 
 // n encryptions of 0, row i with mask i and error i.

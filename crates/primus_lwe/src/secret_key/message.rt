@@ -2,15 +2,14 @@
 ghost use mathlib.Core.Path.{_≡_};
 ghost use Rattle.scheme.specs.Lwe.{Words, Signed};
 ghost use Rattle.scheme.specs.Checks.{refusal};
-ghost use Rattle.primus_lwe.specs.Key.{keyOf};
+ghost use Rattle.lwe_secret_key.specs.Key.{keyOf};
 ghost use Rattle.primus_lwe.specs.Answers.{messageRows, EncryptsMessage, Decrypts};
 use crate::parameter::LweDecryptionParameters;
 use crate::parameter::LweParameters;
 use crate::secret_key::borrowed;
-use crate::secret_key::form;
-use crate::secret_key::form::KeyForm;
 use checks::Values;
 use checks::WordAnswer;
+use lwe_secret_key::KeyForm;
 use lwe_tag::LweAnswer;
 use lwe_tag::LweTag;
 use primus_encoding::PlaintextEmbedding;
@@ -33,7 +32,7 @@ fn message_refusal(
     let modulus = params.modulus;
     let dimension = params.dimension;
     let mut s = params.sizes();
-    s.key = form::key_differs(form, words, signed, dimension);
+    s.key = lwe_secret_key::key_differs(form, words, signed, dimension);
     s.output = dimension.ciphertext_differs(room);
     s.lent = borrowed::lent_differs(mask.len(), errors.len(), dimension);
     let r = s.first();
@@ -41,7 +40,7 @@ fn message_refusal(
         return r;
     }
     let mut v = Values::NONE;
-    v.word = form::key_or_words_refused(form, modulus, words, signed, mask);
+    v.word = lwe_secret_key::key_or_words_refused(form, modulus, words, signed, mask);
     v.error = checks::errors_refused(params.error_limit, errors);
     v.message = checks::message_refused(params.plaintext_modulus, message);
     v.first()
@@ -77,7 +76,7 @@ fn encrypt_message(
     }
     let modulus = params.modulus;
     let plaintext = encode_or_zero(params.plaintext_modulus, modulus, message, embedding);
-    borrowed::encrypt_to(
+    lwe_secret_key::encrypt_to(
         out,
         form,
         words,
@@ -164,7 +163,7 @@ fn decrypt_under(
         return WordAnswer::Refused(r);
     }
     let n = params.dimension.get();
-    let p = borrowed::phase(form, words, signed, ciphertext, n, modulus);
+    let p = lwe_secret_key::phase(form, words, signed, ciphertext, n, modulus);
     WordAnswer::Word(decode_or_zero(t, modulus, p))
 }
 

@@ -2,8 +2,8 @@ use mathlib.Core.Path.{sym, _∙_}
 use borrow.Author.Needs.{needs}
 use lib.ListN.{length}
 use Rattle.scheme.proofs.Order.{refused, done}
-use Rattle.primus_lwe.specs.Key.{keyOf}
-use Rattle.key_switch_key.proofs.Entries.{Unrefused, generates-ready, generable}
+use Rattle.lwe_secret_key.specs.Key.{keyOf}
+use Rattle.key_switch_key.proofs.Entries.{Unrefused, generable}
 use Rattle.key_switch_key.proofs.key.generate_from.Statement.{statement}
 use Rattle.key_switch_key.proofs.key.generate_from.Tie as tie
 
@@ -18,22 +18,12 @@ returns : tie.Need-returns
 returns c = record { writes = refused (c .before .generate-refusal .ensures) (c .if1 .taken) }
 
 write-entries-requires : tie.Need-write-entries-requires
-write-entries-requires c κs =
-    let t = c .before .before in
-    let k = t .before .before in
-    generable (none (k .before)) (k .prepare .ensures) (t .prepared .given .1)
+write-entries-requires c κs = generable (none (c .before))
 
 returns-2 : tie.Need-returns-2
 returns-2 c =
     let w = c .before .before in
-    record { writes = done (none (w .before .before .before .before .before .before) .none) (w .write-entries .ensures) }
-
-returns-3 : tie.Need-returns-3
-returns-3 c =
-    let k = c .before .before in
-    absurd (generates-ready (none (k .before)) (k .prepare .ensures) (c .enum-told .given .1))
+    record { writes = done (none (w .before .before) .none) (w .write-entries .ensures) }
 
 pub generate-from-spec : {M : Type 1} → statement M
-generate-from-spec =
-    tie.close
-    (tie.spec (λ c κs. tt) returns (λ c κs. tt) (λ c. search needs) write-entries-requires (λ c. search needs) (λ c. search needs) returns-2 returns-3)
+generate-from-spec = tie.close (tie.spec (λ c κs. tt) returns write-entries-requires (λ c. search needs) returns-2)

@@ -3,7 +3,7 @@ use native.Mathlib.Omega.{arith}
 use borrow.Author.Needs.{needs}
 use lib.ListN.{length}
 use Rattle.scheme.specs.Lwe.{words as wordsOf, secretOf}
-use Rattle.primus_lwe.specs.Key.{keyOf}
+use Rattle.lwe_secret_key.specs.Key.{keyOf}
 use Rattle.key_switch_key.proofs.Entries.{Entering, Entered, entering, levels-some, level-in, row-asks, entered-start, entered-on, entered-end}
 use Rattle.key_switch_key.proofs.key.write_entries.Statement.{statement}
 use Rattle.key_switch_key.proofs.key.write_entries.Tie as tie
@@ -15,10 +15,13 @@ abbrev μ-loop : tie.MeasureT-loop
 μ-loop out₀ form words signed output-key masks errors p modulus m weights k₀ t18 out k = length errors - k
 
 abbrev start : tie.After-scalars Inv-loop μ-loop → tie.Start Inv-loop μ-loop
-start c = c .before .before .before .before .before .before
+start c = c .before .before .before .before .before .before .before
 
-asks : (c : tie.After-scalars Inv-loop μ-loop) → let a = start c .args in Entering (a .p) (c .scalars .result) (c .before .get .result) (a .masks .now) (a .errors .now) (length (a .out .now))
-asks c = entering (start c .pre) (c .before .get .ensures) (c .scalars .ensures)
+asks : (c : tie.After-scalars Inv-loop μ-loop) → let a = start c .args in Entering (c .before .before .prepared .result) (c .scalars .result) (c .before .get .result) (a .masks .now) (a .errors .now) (length (a .out .now))
+asks c = entering (start c .pre) (c .before .before .prepared .ensures) (c .before .get .ensures) (c .scalars .ensures)
+
+prepared-requires : tie.Need-prepared-requires Inv-loop μ-loop
+prepared-requires c κs = c .before .before .before .before .pre .accepted
 
 loop-holds : tie.Need-loop-holds Inv-loop μ-loop
 loop-holds c =
@@ -64,10 +67,10 @@ returns c =
     let l = c .before in
     let b = l .before in
     let a = start b .args in
-    entered-end (start b .pre) (b .before .get .ensures) (secretOf (keyOf (a .form) (a .words .now) (a .signed .now))) (wordsOf (a .output-key .now)) (l .loop .inv) (c .loop-test .left)
+    entered-end (start b .pre) (b .before .before .prepared .ensures) (b .before .get .ensures) (secretOf (keyOf (a .form) (a .words .now) (a .signed .now))) (wordsOf (a .output-key .now)) (l .loop .inv) (c .loop-test .left)
 
 pub write-entries-spec : {M : Type 1} → statement M
 write-entries-spec =
     tie.close
-    (tie.spec Inv-loop μ-loop (λ c κs. tt) (λ c κs. tt) loop-holds div-i rem-j (λ c κs. tt) mul-reduce-mul array-read-reduce-mul (λ c κs. tt) (λ c. search needs) encrypt-row-requires
+    (tie.spec Inv-loop μ-loop prepared-requires (λ c κs. tt) (λ c κs. tt) loop-holds div-i rem-j (λ c κs. tt) mul-reduce-mul array-read-reduce-mul (λ c κs. tt) (λ c. search needs) encrypt-row-requires
     add-k (λ c. omega arith) loop-again (λ c. c .before .loop .inv .same) returns)

@@ -9,7 +9,7 @@ use Rattle.primus_reduce.specs.Ring.{sizeOf}
 use Rattle.primus_encoding.specs.Answers.{encodeWord}
 use Rattle.primus_lwe.specs.Answers.{encodings}
 use Rattle.primus_lwe.proofs.Coded.{encoded-at}
-use Rattle.primus_lwe.proofs.Runs.{Rows, rows-start, rows-mask, rows-more, rows-done}
+use Rattle.lwe_secret_key.proofs.Runs.{Rows, rows-start, rows-mask, rows-more, rows-done}
 use Rattle.primus_lwe_batch.proofs.message_batch.write_messages.Statement.{statement}
 use Rattle.primus_lwe_batch.proofs.message_batch.write_messages.Tie as tie
 

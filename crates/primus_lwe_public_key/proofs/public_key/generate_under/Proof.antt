@@ -5,7 +5,7 @@ use lib.ListN.{length}
 use Rattle.scheme.specs.Lwe.{signed, secretOf, publicKey}
 use Rattle.scheme.proofs.Order.{refused, done}
 use Rattle.primus_reduce.specs.Ring.{sizeOf}
-use Rattle.primus_lwe.specs.Key.{keyOf}
+use Rattle.lwe_secret_key.specs.Key.{keyOf}
 use Rattle.primus_lwe_public_key.proofs.Laws.{generable}
 use Rattle.primus_lwe_public_key.proofs.public_key.generate_under.Statement.{statement}
 use Rattle.primus_lwe_public_key.proofs.public_key.generate_under.Tie as tie

@@ -5,7 +5,7 @@ use lib.ListN.{length}
 use Rattle.scheme.specs.Lwe.{signed, secretOf}
 use Rattle.scheme.proofs.Rows.{Filling, filling-room}
 use Rattle.primus_reduce.specs.Ring.{sizeOf}
-use Rattle.primus_lwe.specs.Key.{keyOf}
+use Rattle.lwe_secret_key.specs.Key.{keyOf}
 use Rattle.primus_lwe_public_key.proofs.Laws.{zeroRow, zeros-start, zeros-mask, zeros-sizes, zeros-next, zeros-end}
 use Rattle.primus_lwe_public_key.proofs.rows.write_zeros.Statement.{statement}
 use Rattle.primus_lwe_public_key.proofs.rows.write_zeros.Tie as tie

@@ -6,7 +6,7 @@ use lib.ListN.{length, getD}
 use Rattle.scheme.specs.Lwe.{secretOf, encrypted}
 use Rattle.lwe_tag.proofs.Writes.{refused, done}
 use Rattle.primus_reduce.specs.Ring.{sizeOf}
-use Rattle.primus_lwe.specs.Key.{keyOf}
+use Rattle.lwe_secret_key.specs.Key.{keyOf}
 use Rattle.primus_lwe.proofs.Coded.{Messageable, messageable, encoded-is}
 use Rattle.primus_lwe.proofs.secret_key.message.encrypt_message.Statement.{statement}
 use Rattle.primus_lwe.proofs.secret_key.message.encrypt_message.Tie as tie
