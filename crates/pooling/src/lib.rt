@@ -1,6 +1,8 @@
-// A saved run of ciphertexts added to a total, place by place, or refused whole.
+// Saved runs of ciphertexts, added to a total place by place, or refused whole. The first of them is the total.
+mod rows;
 mod tallies;
 mod total;
 
 pub use total::PoolParameters;
 pub use total::add_saved;
+pub use total::begin_saved;

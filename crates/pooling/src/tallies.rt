@@ -1,49 +1,30 @@
-// The tallies of a total: a number for each place, as `Tally::number` gives it.
+// The tallies of a total: for each place the number of a tag.
 ghost use mathlib.Core.Path.{_≡_};
-ghost use mathlib.Core.Bool.{false};
-ghost use Rattle.scheme.specs.Numbers.{pick};
-ghost use Rattle.primus_lattice.specs.Answers.{tagAnswer};
-ghost use Rattle.pooling.specs.Total.{sumOf, sumFails, talliesFail, addTallies};
-use primus_lattice::LweTag;
-use primus_lattice::LweTagAnswer;
-use primus_lattice::Tally;
+ghost use Prim.Native.Nat.{_<_};
+ghost use lib.ListN.{length};
+ghost use Rattle.pooling.specs.Total.{talliesFail, savedFail, placeFails, savedTallies};
+ghost use Rattle.lwe_tag.specs.Answers.{cap, tallyOf};
+ghost use Rattle.scheme.specs.Tally.{tallyFails};
+ghost use Rattle.saved.specs.Layout.{savedTag};
+use lwe_tag::LweTag;
 
-fn added(x: Tally, y: Tally) -> LweTagAnswer
-    ensures { λ r. ⌜ r ≡ tagAnswer x y ⌝ }
+// 17, at one place of the total: one of the two tallies, or their sum.
+fn place_refused(tallies: &[u64], bytes: &[u8], i: usize) -> bool
+    requires { ⌜ i < length (now tallies) ⌝ }
+    ensures { λ r. ⌜ r ≡ placeFails (now (tallies .entry)) (now (bytes .entry)) i ⌝ }
 {
-    let a = LweTag::from_tally(x);
-    a.add(LweTag::from_tally(y))
+    let number = tallies[i];
+    lwe_tag::tags_refused(LweTag::with_tally(number), saved::tag_at(bytes, i))
 }
 
-// 17, at one place: one of the two, or their sum.
-fn sum_refused(x: Tally, y: Tally) -> bool
-    ensures { λ r. ⌜ r ≡ sumFails x y ⌝ }
-{
-    match added(x, y) {
-        LweTagAnswer::Tag(_) => false,
-        LweTagAnswer::Refused(_) => true,
-    }
-}
-
-// No tally where 17 applies.
-fn sum(x: Tally, y: Tally) -> Tally
-    ensures { λ r. ⌜ r ≡ pick (sumFails x y) Tally.Absent (sumOf x y) ⌝ }
-{
-    match added(x, y) {
-        LweTagAnswer::Tag(t) => t.tally(),
-        LweTagAnswer::Refused(_) => Tally::Absent,
-    }
-}
-
-// 17: at some place of the total.
+// 17, at some place.
 pub(crate) fn tallies_refused(tallies: &[u64], bytes: &[u8]) -> bool
     ensures { λ r. ⌜ r ≡ talliesFail (now (tallies .entry)) (now (bytes .entry)) ⌝ }
 {
     let mut any = false;
     let mut i = 0;
     while i < tallies.len() {
-        let number = tallies[i];
-        if sum_refused(Tally::from_number(number), saved::tally_at(bytes, i)) {
+        if place_refused(tallies, bytes, i) {
             any = true;
         }
         i += 1;
@@ -51,16 +32,37 @@ pub(crate) fn tallies_refused(tallies: &[u64], bytes: &[u8]) -> bool
     any
 }
 
-// Adds the tally of each ciphertext of a file to that of its place.
-pub(crate) fn add_tallies(tallies: &mut [u64], bytes: &[u8])
-    requires { ⌜ talliesFail (now tallies) (now bytes) ≡ false ⌝ }
-    ensures { λ _. ⌜ now (tallies .exit) ≡ addTallies (now (tallies .entry)) (now (bytes .entry)) ⌝ }
+// 17, a tally of the file.
+fn tag_refused(bytes: &[u8], i: usize) -> bool
+    ensures { λ r. ⌜ r ≡ tallyFails cap (tallyOf (savedTag (now (bytes .entry)) i)) ⌝ }
+{
+    let tag = saved::tag_at(bytes, i);
+    tag.refused()
+}
+
+// 17, one of the first `places` tallies of the file.
+pub(crate) fn saved_refused(places: usize, bytes: &[u8]) -> bool
+    ensures { λ r. ⌜ r ≡ savedFail places (now (bytes .entry)) ⌝ }
+{
+    let mut any = false;
+    let mut i = 0;
+    while i < places {
+        if tag_refused(bytes, i) {
+            any = true;
+        }
+        i += 1;
+    }
+    any
+}
+
+// The tallies of the file, as those of a total.
+pub(crate) fn write_tallies(tallies: &mut [u64], bytes: &[u8])
+    ensures { λ _. ⌜ now (tallies .exit) ≡ savedTallies (length (now (tallies .entry))) (now (bytes .entry)) ⌝ }
 {
     let mut i = 0;
     while i < tallies.len() {
-        let number = tallies[i];
-        let after = sum(Tally::from_number(number), saved::tally_at(bytes, i));
-        tallies[i] = after.number();
+        let tag = saved::tag_at(bytes, i);
+        tallies[i] = tag.number();
         i += 1;
     }
 }

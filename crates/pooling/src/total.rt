@@ -1,13 +1,13 @@
 // The words of a total, one ciphertext after the other, and the call that adds a file.
 ghost use mathlib.Core.Path.{_≡_};
 ghost use mathlib.Core.Bool.{_||_};
-ghost use Prim.Native.Nat.{_+_, _*_, _<_};
-ghost use lib.ListN.{length};
-ghost use Rattle.scheme.specs.Lwe.{addWords};
-ghost use Rattle.scheme.specs.Checks.{refusal, lengthFails, wordsFail};
+ghost use Prim.Native.Nat.{_+_, _*_};
+ghost use Rattle.scheme.specs.Checks.{sizes, applies, firstIn, refusal, lengthFails, wordsFail};
 ghost use Rattle.primus_reduce.specs.Ring.{sizeOf};
 ghost use Rattle.saved.specs.Layout.{fileFails, fileWords};
-ghost use Rattle.pooling.specs.Total.{otherFails, totalRows, totalRefusal, AddsSaved};
+ghost use Rattle.pooling.specs.Total.{otherFails, sizeRows, beginRows, totalRows, beginRefusal, totalRefusal};
+ghost use Rattle.pooling.specs.Total.{BeginsSaved, AddsSaved};
+use crate::rows;
 use crate::tallies;
 use checks::Sizes;
 use checks::Values;
@@ -80,9 +80,9 @@ fn words_refused(q: Modulus, total: &[u32], bytes: &[u8], h: Head) -> bool
     file_words_refused(q, bytes, h.words as usize) | checks::words_refused(q, total)
 }
 
-fn judged(params: PoolParameters, h: Head, bytes: &[u8], total: &[u32], tallies: &[u64]) -> u32
-    ensures { λ r. ⌜ r ≡ refusal (totalRows params h (now (bytes .entry)) (now (total .entry))
-        (now (tallies .entry))) ⌝ }
+// 2 to 12, of a total of `len` words and `places` tallies.
+fn sizes_refusal(params: PoolParameters, h: Head, len: usize, places: usize) -> u32
+    ensures { λ r. ⌜ r ≡ firstIn (applies (sizeRows params h len places)) sizes ⌝ }
 {
     let modulus = params.modulus;
     let dimension = params.dimension;
@@ -92,19 +92,52 @@ fn judged(params: PoolParameters, h: Head, bytes: &[u8], total: &[u32], tallies:
     s.dimension = dimension.refused();
     s.plaintext = checks::plaintext_refused(t);
     s.small = checks::small_refused(t, modulus);
-    s.input = rows_differ(dimension, h, total.len());
-    s.lent = checks::length_differs(tallies.len(), h.count as usize);
-    let r = s.first();
+    s.input = rows_differ(dimension, h, len);
+    s.lent = checks::length_differs(places, h.count as usize);
+    s.first()
+}
+
+fn begin_judged(params: PoolParameters, h: Head, bytes: &[u8], len: usize, places: usize) -> u32
+    ensures { λ r. ⌜ r ≡ refusal (beginRows params h (now (bytes .entry)) len places) ⌝ }
+{
+    let r = sizes_refusal(params, h, len, places);
     if r != 0 {
         return r;
     }
+    let modulus = params.modulus;
+    let mut v = Values::NONE;
+    v.word = file_words_refused(modulus, bytes, h.words as usize);
+    v.tally = tallies::saved_refused(places, bytes);
+    v.first()
+}
+
+fn judged(params: PoolParameters, h: Head, bytes: &[u8], total: &[u32], tallies: &[u64]) -> u32
+    ensures { λ r. ⌜ r ≡ refusal (totalRows params h (now (bytes .entry)) (now (total .entry))
+        (now (tallies .entry))) ⌝ }
+{
+    let r = sizes_refusal(params, h, total.len(), tallies.len());
+    if r != 0 {
+        return r;
+    }
+    let modulus = params.modulus;
     let mut v = Values::NONE;
     v.word = words_refused(modulus, total, bytes, h);
     v.tally = tallies::tallies_refused(tallies, bytes);
     v.first()
 }
 
-// The first number that applies, or 0. Only what is a whole file of this total goes on past 19.
+// The first number that applies, or 0. Only a whole file of this total goes on past 19: no word is walked that is claimed
+// and not there.
+fn begin_refusal(params: PoolParameters, bytes: &[u8], len: usize, places: usize) -> u32
+    ensures { λ r. ⌜ r ≡ beginRefusal params (now (bytes .entry)) len places ⌝ }
+{
+    let h = saved::head_of(bytes);
+    if foreign(params, h, bytes) {
+        return 19;
+    }
+    begin_judged(params, h, bytes, len, places)
+}
+
 fn total_refusal(params: PoolParameters, bytes: &[u8], total: &[u32], tallies: &[u64]) -> u32
     ensures { λ r. ⌜ r ≡ totalRefusal params (now (bytes .entry)) (now (total .entry)) (now (tallies .entry)) ⌝ }
 {
@@ -115,19 +148,28 @@ fn total_refusal(params: PoolParameters, bytes: &[u8], total: &[u32], tallies: &
     judged(params, h, bytes, total, tallies)
 }
 
-fn add_words(total: &mut [u32], bytes: &[u8], modulus: Modulus)
-    requires { ⌜ 0 < sizeOf modulus ⌝ }
-    ensures { λ _. ⌜ now (total .exit) ≡ addWords (sizeOf modulus) (now (total .entry))
-        (fileWords (now (bytes .entry)) (length (now (total .entry)))) ⌝ }
+// The ciphertexts of a file as a total, and their tallies, whatever stood there. The E of its head is not read.
+// Refuses by 19, 2, 6, 7, 8, 10, 12, 14, 17.
+pub fn begin_saved(
+    params: PoolParameters,
+    bytes: &[u8],
+    total: &mut [u32],
+    tallies: &mut [u64],
+) -> u32
+    ensures { λ r. ⌜ BeginsSaved params (now (bytes .entry)) (now (total .entry)) (now (tallies .entry)) r
+        (now (total .exit)) (now (tallies .exit)) ⌝ }
 {
-    let mut i = 0;
-    while i < total.len() {
-        total[i] = modulus.reduce_add(total[i], saved::word_at(bytes, i));
-        i += 1;
+    let refusal = begin_refusal(params, bytes, total.len(), tallies.len());
+    if refusal != 0 {
+        return refusal;
     }
+    saved::words_to(bytes, total);
+    tallies::write_tallies(tallies, bytes);
+    0
 }
 
-// Adds the ciphertexts of a file to a total, and their tallies. Refuses by 19, 2, 6, 7, 8, 10, 12, 14, 17.
+// Adds the ciphertexts of a file to a total, and their tallies. The E of its head is not read: a sum takes none.
+// Refuses by 19, 2, 6, 7, 8, 10, 12, 14, 17.
 pub fn add_saved(
     params: PoolParameters,
     bytes: &[u8],
@@ -137,12 +179,10 @@ pub fn add_saved(
     ensures { λ r. ⌜ AddsSaved params (now (bytes .entry)) (now (total .entry)) (now (tallies .entry)) r
         (now (total .exit)) (now (tallies .exit)) ⌝ }
 {
-    let refusal = total_refusal(params, bytes, total, tallies);
-    if refusal != 0 {
-        return refusal;
+    let refused = total_refusal(params, bytes, total, tallies);
+    if refused != 0 {
+        return refused;
     }
-    let modulus = params.modulus;
-    add_words(total, bytes, modulus);
-    tallies::add_tallies(tallies, bytes);
+    rows::add_rows(total, tallies, params, bytes);
     0
 }

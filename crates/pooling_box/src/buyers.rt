@@ -1,10 +1,9 @@
 // The buyers: they have the group's secret, and see only the switched total.
-use crate::ERROR_LIMIT;
 use crate::PLAINTEXT_MODULUS;
 use crate::reasons;
 use primus_lattice::LweDimension;
 use primus_lattice::LweDimensionAnswer;
-use primus_lwe::LweParameters;
+use primus_lwe::LweDecryptionParameters;
 use primus_lwe_batch::decrypt_message_batch_to;
 use primus_reduce::Modulus;
 use saved::Head;
@@ -30,11 +29,10 @@ fn print_totals(counts: [u32; 4]) {
 }
 
 fn with_dimension(dimension: LweDimension, modulus: Modulus, secret: &[u32], sent: &[u32]) -> u32 {
-    let params = LweParameters {
+    let params = LweDecryptionParameters {
         dimension,
         modulus,
         plaintext_modulus: PLAINTEXT_MODULUS,
-        error_limit: ERROR_LIMIT,
     };
     let mut counts = [0u32; 4];
     let r = decrypt_message_batch_to(params, secret, sent, &mut counts);
@@ -75,8 +73,9 @@ pub(crate) fn open(sent: &[u32], words: usize, modulus: Modulus) {
     let mut secret = [0u32; 16368];
     let l = saved_files::load(b"group_secret", &mut secret);
     let h = l.head;
+    let stored = l.stored;
     if l.refusal != 0 || is_other(h, modulus) {
-        reasons::told_file(b"group_secret", 19, l.refusal == 0);
+        reasons::told_file(b"group_secret", 19, stored);
         return;
     }
     let r = with_secret(h, &secret, sent, words);

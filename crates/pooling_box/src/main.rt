@@ -4,10 +4,9 @@ mod buyers;
 mod reasons;
 mod station;
 
-// What was agreed on: counts are taken modulo t, errors lie within ±E, and a row has a count for each of four castings.
+// What was agreed on: counts are taken modulo t, and a row has a count for each of four castings. What bounds the shops'
+// errors is their tallies.
 pub(crate) const PLAINTEXT_MODULUS: u32 = 1024;
-
-pub(crate) const ERROR_LIMIT: u32 = 3;
 
 pub(crate) const PLACES: usize = 4;
 

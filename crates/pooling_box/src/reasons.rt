@@ -1,4 +1,5 @@
 // The refusal numbers in words.
+use saved_files::Stored;
 
 fn parameters(number: u32) {
     match number {
@@ -27,7 +28,7 @@ fn operands(number: u32) {
         16 => programs::write(b"a message is not below the plaintext modulus"),
         17 => programs::write(b"a tally, given or summed, is above 2^32"),
         18 => programs::write(b"a word comes before any accepted basis"),
-        _ => programs::write(b"not a whole file of this layout: cut off, altered or another one"),
+        _ => programs::write(b"an unknown command, or no whole file of its kind"),
     }
 }
 
@@ -54,12 +55,23 @@ pub(crate) fn told(name: &[u8], number: u32) {
     refused(number);
 }
 
-// What became of a file: a whole one that is refused by 19 is of another kind, or made with another q or t.
-pub(crate) fn told_file(name: &[u8], number: u32, whole: bool) {
-    if number != 19 || !whole {
+fn unknown(stored: Stored) {
+    match stored {
+        Stored::Missing => programs::write(b"there is no such file, or it cannot be opened\n"),
+        Stored::Broken => {
+            programs::write(b"not a whole file of this layout: cut off, too long or another one\n")
+        }
+        Stored::Whole => programs::write(b"a file of another kind, modulus or plaintext modulus\n"),
+    }
+}
+
+// What became of a file: for 19, in words, what stands under its name.
+pub(crate) fn told_file(name: &[u8], number: u32, stored: Stored) {
+    if number != 19 {
         told(name, number);
         return;
     }
     programs::write(name);
-    programs::write(b": refused 19: a file of another kind, modulus or plaintext modulus\n");
+    programs::write(b": refused 19: ");
+    unknown(stored);
 }

@@ -7,33 +7,53 @@ use key_switch_key::LweKeySwitchingParameters;
 use key_switch_key::LweKeySwitchingParametersAnswer;
 use pooling::PoolParameters;
 use pooling::add_saved;
+use pooling::begin_saved;
 use primus_decompose::ApproxSignedBasis;
+use primus_lattice::LweAnswer;
 use primus_lattice::LweDimension;
 use primus_lattice::LweTag;
 use primus_lattice::MarkAnswer;
 use primus_lattice::Tally;
 use primus_reduce::Modulus;
 use saved::Head;
+use saved_files::ROOM;
+use saved_files::Stored;
 
 fn digit(number: u32) -> u8 {
     (48 + number % 10) as u8
 }
 
-// A shop's row goes into the total whole, or not at all: 1 where it does.
+// The first row that is accepted is the total, and the others are added to it.
+fn add_row(
+    params: PoolParameters,
+    rows: u32,
+    bytes: &[u8],
+    total: &mut [u32],
+    tallies: &mut [u64],
+) -> u32 {
+    if rows == 0 {
+        return begin_saved(params, bytes, total, tallies);
+    }
+    add_saved(params, bytes, total, tallies)
+}
+
+// A shop's row goes into the total of `rows` rows whole, or not at all: how many there are then.
 fn add_shop(
     params: PoolParameters,
+    rows: u32,
     name: &[u8],
     bytes: &mut [u8],
     total: &mut [u32],
     tallies: &mut [u64],
 ) -> u32 {
-    let len = programs::read(name, bytes);
-    let r = add_saved(params, &bytes[0..len], total, tallies);
-    reasons::told_file(name, r, saved::file_refusal(&bytes[0..len]) == 0);
+    let f = programs::read_file(name, bytes);
+    let len = f.len;
+    let r = add_row(params, rows, &bytes[0..len], total, tallies);
+    reasons::told_file(name, r, saved_files::stored_as(f.opened, &bytes[0..len]));
     if r == 0 {
-        return 1;
+        return std::num::wrapping_add_u32(rows, 1);
     }
-    0
+    rows
 }
 
 // How many of the shops' rows were added.
@@ -46,20 +66,19 @@ fn add_shops(
     let mut rows = 0;
     for number in 1..10 {
         let name = [b's', b'h', b'o', b'p', b'_', digit(number)];
-        let added = add_shop(params, &name, bytes, total, tallies);
-        rows = std::num::wrapping_add_u32(rows, added);
+        rows = add_shop(params, rows, &name, bytes, total, tallies);
     }
     rows
 }
 
 // Document 01's mark of one place. It counts one rounding, however many rows were added.
-fn print_mark(place: u64, tally: Tally, modulus: Modulus) {
+fn print_mark(place: u64, number: u64, modulus: Modulus) {
+    let tag = LweTag::with_tally(number);
     programs::print(b"  casting ", place);
-    match tally {
+    match tag.tally() {
         Tally::Absent => programs::write(b": no tally"),
         Tally::Present(a) => programs::print(b": tally ", a),
     }
-    let tag = LweTag::from_tally(tally);
     match tag.is_good(modulus, PLAINTEXT_MODULUS) {
         MarkAnswer::Mark(good) => print_good(good),
         MarkAnswer::Refused(r) => reasons::refused(r),
@@ -75,15 +94,15 @@ fn print_good(good: bool) {
 }
 
 fn print_marks(tallies: [u64; 4], modulus: Modulus) {
-    print_mark(1, Tally::from_number(tallies[0]), modulus);
-    print_mark(2, Tally::from_number(tallies[1]), modulus);
-    print_mark(3, Tally::from_number(tallies[2]), modulus);
-    print_mark(4, Tally::from_number(tallies[3]), modulus);
+    print_mark(1, tallies[0], modulus);
+    print_mark(2, tallies[1], modulus);
+    print_mark(3, tallies[2], modulus);
+    print_mark(4, tallies[3], modulus);
 }
 
 // Adds the rows and prints the marks; how many rows were added.
 fn collect(pool: PoolParameters, modulus: Modulus, total: &mut [u32]) -> u32 {
-    let mut bytes = [0u8; 65536];
+    let mut bytes = [0u8; ROOM];
     let mut tallies = [0u64; 4];
     programs::write(b"the box adds the shops' rows of four encrypted counts:\n");
     let rows = add_shops(pool, &mut bytes, total, &mut tallies);
@@ -114,12 +133,13 @@ fn serve(
         return 0;
     }
     programs::write(b"the box switches the total to the group's key and sends it on\n");
-    let r = key_switch_batch_to(params, key, total, sent);
-    if r != 0 {
-        reasons::told(b"the switch", r);
-        return 0;
+    match key_switch_batch_to(params, key, total, sent) {
+        LweAnswer::Written(_) => sent.len(),
+        LweAnswer::Refused(r) => {
+            reasons::told(b"the switch", r);
+            0
+        }
     }
-    sent.len()
 }
 
 // The words of four ciphertexts. A dimension above 2,048 is refused before.
@@ -184,7 +204,7 @@ fn with_file(h: Head, key: &[u32], sent: &mut [u32]) -> usize {
             sent,
         ),
         LweKeySwitchingParametersAnswer::Refused(r) => {
-            reasons::told_file(b"switching_key", r, true);
+            reasons::told_file(b"switching_key", r, Stored::Whole);
             0
         }
     }
@@ -196,8 +216,9 @@ pub(crate) fn run(sent: &mut [u32]) -> Sent {
     let l = saved_files::load(b"switching_key", &mut key);
     let h = l.head;
     let modulus = h.modulus;
+    let stored = l.stored;
     if l.refusal != 0 {
-        reasons::told_file(b"switching_key", l.refusal, false);
+        reasons::told_file(b"switching_key", l.refusal, stored);
         return Sent { words: 0, modulus };
     }
     Sent {

@@ -19,21 +19,41 @@ pub fn say(label: &[u8], number: u64) {
     write(b"\n");
 }
 
-// The first bytes of a file, as many as there is room for, and their number; 0 where it cannot be opened.
-pub fn read(path: &[u8], bytes: &mut [u8]) -> usize
-    ensures { λ r. ⌜ r ≤ length (now (bytes .exit)) ⌝ }
+// What was read of a file: whether it could be opened, and how many bytes.
+pub struct FileRead {
+    pub opened: bool,
+    pub len: usize,
+}
+
+// The first bytes of a file, as many as there is room for.
+pub fn read_file(path: &[u8], bytes: &mut [u8]) -> FileRead
+    ensures { λ r. ⌜ r .len ≤ length (now (bytes .exit)) ⌝ }
 {
     let fd = os::open_read(path);
     if fd < 0 {
         os::fail(path);
-        return 0;
+        return FileRead {
+            opened: false,
+            len: 0,
+        };
     }
     let len = io::read_full(fd, bytes);
     libc::close(fd);
     if bytes.len() < len {
-        return 0;
+        return FileRead {
+            opened: true,
+            len: 0,
+        };
     }
-    len
+    FileRead { opened: true, len }
+}
+
+// The number of bytes alone; 0 where it cannot be opened.
+pub fn read(path: &[u8], bytes: &mut [u8]) -> usize
+    ensures { λ r. ⌜ r ≤ length (now (bytes .exit)) ⌝ }
+{
+    let r = read_file(path, bytes);
+    r.len
 }
 
 // A modulus of a record: a byte that is 0 for the native one, then its number.

@@ -4,20 +4,19 @@ use crate::files::DIFFERS;
 use checks::WordAnswer;
 use primus_lattice::LweDimension;
 use primus_lattice::LweDimensionAnswer;
-use primus_lwe::LweParameters;
+use primus_lwe::LweDecryptionParameters;
 use primus_lwe::decrypt_message_signed;
 use primus_lwe_batch::decrypt_message_batch_to;
 use primus_lwe_packed::decrypt_message_packed;
 use saved::Head;
 use saved_files::Loaded;
 
-fn parameters(h: Head, dimension: LweDimension) -> LweParameters {
+fn parameters(h: Head, dimension: LweDimension) -> LweDecryptionParameters {
     let modulus = h.modulus;
-    LweParameters {
+    LweDecryptionParameters {
         dimension,
         modulus,
         plaintext_modulus: h.plaintext_modulus,
-        error_limit: h.error_limit,
     }
 }
 
@@ -47,7 +46,7 @@ fn open_in(h: Head, n: usize, secret: &[u32], words: &[u32], out: &mut [u32]) ->
 
 // The message of the ciphertext at `at`, or 2^32 − 1, which is none.
 fn message_at(
-    params: LweParameters,
+    params: LweDecryptionParameters,
     secret: &[i32],
     words: &[u32],
     at: usize,
@@ -66,7 +65,13 @@ fn message_at(
     }
 }
 
-fn open_rows(params: LweParameters, secret: &[i32], words: &[u32], width: usize, out: &mut [u32]) {
+fn open_rows(
+    params: LweDecryptionParameters,
+    secret: &[i32],
+    words: &[u32],
+    width: usize,
+    out: &mut [u32],
+) {
     let mut i = 0;
     let mut at = 0;
     while i < out.len() {

@@ -1,7 +1,6 @@
 // The files of a release, and the line that the program writes about each.
 ghost use Prim.Native.Nat.{_≤_};
 ghost use lib.ListN.{length};
-use primus_lattice::LweTag;
 use primus_lattice::MarkAnswer;
 use primus_lattice::Tally;
 use saved_files::Loaded;
@@ -65,14 +64,13 @@ fn print_good(good: bool) {
 }
 
 fn print_tally(l: Loaded) {
-    let tally = l.tally;
+    let tag = l.tag;
     let h = l.head;
     let modulus = h.modulus;
-    let Tally::Present(a) = tally else {
+    let Tally::Present(a) = tag.tally() else {
         return;
     };
     programs::print(b", tally ", a);
-    let tag = LweTag::from_tally(tally);
     match tag.is_good(modulus, h.plaintext_modulus) {
         MarkAnswer::Mark(good) => print_good(good),
         MarkAnswer::Refused(r) => programs::print(b" refused ", r as u64),

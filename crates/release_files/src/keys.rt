@@ -3,9 +3,10 @@ use crate::files;
 use crate::files::DIFFERS;
 use key_switch::key_switch_batch_to;
 use key_switch_key::LweKeySwitchingParameters;
+use primus_lattice::LweAnswer;
 use primus_lattice::LweDimension;
 use primus_lattice::LweDimensionAnswer;
-use primus_lwe::LweEncryptionParameters;
+use primus_lwe::LwePhaseParameters;
 use primus_lwe_batch::decrypt_phase_batch_to;
 use saved::Head;
 
@@ -66,11 +67,7 @@ fn phases(h: Head, secret: &[u32], key: &[u32], out: &mut [u32]) -> u32 {
     match LweDimension::try_new(h.n) {
         LweDimensionAnswer::Refused(r) => r,
         LweDimensionAnswer::Accepted(dimension) => {
-            let params = LweEncryptionParameters {
-                dimension,
-                modulus,
-                error_limit: h.error_limit,
-            };
+            let params = LwePhaseParameters { dimension, modulus };
             decrypt_phase_batch_to(params, secret, key, out)
         }
     }
@@ -107,7 +104,10 @@ pub(crate) fn public_key(folder: &[u8], name: &[u8], secret: &[u8]) {
 fn switch(h: Head, key: &[u32], input: &[u32], out: &mut [u32]) -> u32 {
     let modulus = h.modulus;
     let params = LweKeySwitchingParameters::given(modulus, h.base_log, h.levels, h.n, h.m);
-    key_switch_batch_to(params, key, input, out)
+    match key_switch_batch_to(params, key, input, out) {
+        LweAnswer::Written(_) => 0,
+        LweAnswer::Refused(r) => r,
+    }
 }
 
 // The key switches the saved input to the saved output, word for word.

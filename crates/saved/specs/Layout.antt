@@ -1,5 +1,5 @@
--- The layout of a saved file (docs/FILES.md): a head of 64 bytes, the words, and what is saved beside them, all numbers
--- little-endian.
+-- The layout of a saved file (docs/FILES.md): a head of 64 bytes, the words, and what is saved beside them. All
+-- numbers are little-endian.
 use mathlib.Core.Bool.{Bool, not, _||_}
 use mathlib.Core.List.{List, [], _∷_}
 use Prim.Native.Nat.{ℕ, _+_, _*_, _-_, _^_}
@@ -11,6 +11,8 @@ use Rattle.scheme.specs.Checks.{Check, row, applies}
 use Rattle.scheme.specs.Tally.{Tally, Absent, Present}
 use Rattle.little_endian.specs.Bytes.{word32, word64}
 use Rattle.primus_reduce.specs.Ring.{modulusFor}
+use Rattle.lwe_tag.specs.declared.LweTag.{LweTag}
+use Rattle.lwe_tag.specs.Answers.{noTally}
 use Rattle.saved.specs.declared.head.Head.{Head}
 
 -- the numbers of the head, each four bytes at its place
@@ -58,6 +60,15 @@ signedWord w = pick (ltb w (2 ^ 31)) (pos w) (pos w -ℤ pos (2 ^ 32))
 -- bit 1: a tally for each ciphertext, eight bytes, after the words; where it is 0, no tally
 abbrev pub savedTally : List ℕ → ℕ → Tally
 savedTally s i = pick (eqb (besideOf s) 1) (Present (word64 s (64 + 4 * wordsOf s + 8 * i))) Absent
+
+-- as a tag holds it. A tag keeps 2^64 − 1 for none, but a saved tally of that number is one: it is held as the number
+-- before it, which 17 refuses too
+abbrev pub heldNumber : ℕ → ℕ
+heldNumber a = pick (eqb a noTally) (noTally - 1) a
+
+abbrev pub savedTag : List ℕ → ℕ → LweTag
+savedTag s i =
+    record { tally = pick (eqb (besideOf s) 1) (heldNumber (word64 s (64 + 4 * wordsOf s + 8 * i))) noTally }
 
 -- "SGLN", then version 1: as one number of eight bytes
 abbrev pub signatureFails : List ℕ → Bool

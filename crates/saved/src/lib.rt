@@ -7,6 +7,6 @@ pub use head::file_refusal;
 pub use head::file_refused;
 pub use head::head_of;
 pub use words::signed_at;
-pub use words::tally_at;
+pub use words::tag_at;
 pub use words::word_at;
 pub use words::words_to;

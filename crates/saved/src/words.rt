@@ -4,10 +4,9 @@ ghost use Prim.Native.Nat.{_+_, _*_, _^_, _≤_};
 ghost use lib.IntN.{pos, _-ℤ_};
 ghost use lib.ListN.{length};
 ghost use Rattle.little_endian.specs.Bytes.{word64};
-ghost use Rattle.primus_lattice.specs.Answers.{heldTally};
-ghost use Rattle.saved.specs.Layout.{fileWord, fileWords, signedWord, savedTally};
+ghost use Rattle.saved.specs.Layout.{fileWord, fileWords, signedWord, heldNumber, savedTag};
 use crate::head;
-use primus_lattice::Tally;
+use lwe_tag::LweTag;
 
 // Word i. The place is compared with the end first: a sum could overflow.
 pub fn word_at(bytes: &[u8], i: usize) -> u32
@@ -65,13 +64,23 @@ fn number_at(bytes: &[u8], base: usize, i: usize) -> u64
     little_endian::u64_at(bytes, base + 8 * i)
 }
 
-// The tally of ciphertext i, where the file has tallies.
-pub fn tally_at(bytes: &[u8], i: usize) -> Tally
-    ensures { λ r. ⌜ r ≡ heldTally (savedTally (now (bytes .entry)) i) ⌝ }
+// A saved tally, as a tag holds it: 2^64 − 1 would stand for none there.
+fn held(number: u64) -> u64
+    ensures { λ r. ⌜ r ≡ heldNumber number ⌝ }
+{
+    if number == u64::MAX {
+        return 0xffff_ffff_ffff_fffe;
+    }
+    number
+}
+
+// The tag of ciphertext i: the sender's word, and none where the file has no tallies.
+pub fn tag_at(bytes: &[u8], i: usize) -> LweTag
+    ensures { λ r. ⌜ r ≡ savedTag (now (bytes .entry)) i ⌝ }
 {
     let h = head::head_of(bytes);
     if h.beside != 1 {
-        return Tally::Absent;
+        return LweTag::none();
     }
-    Tally::Present(number_at(bytes, 64 + 4 * h.words as usize, i))
+    LweTag::with_tally(held(number_at(bytes, 64 + 4 * h.words as usize, i)))
 }

@@ -1,12 +1,24 @@
 // Saved files, read whole into rooms that the caller lends.
-use primus_lattice::Tally;
+use lwe_tag::LweTag;
 use saved::Head;
 
-// A file's refusal, its head, the tally of its first ciphertext, and the checksum of its bytes.
+// The programs take files of at most 65,536 bytes. A room has one byte more: no whole file has that length, so a
+// longer one is refused too (odd-length of saved).
+pub const ROOM: usize = 65537;
+
+// What stands under a name: nothing that can be opened, bytes that are no whole file, or a whole one.
+pub enum Stored {
+    Missing,
+    Broken,
+    Whole,
+}
+
+// A file's refusal and why, its head, the tag of its first ciphertext, and the checksum of its bytes.
 pub struct Loaded {
     pub refusal: u32,
+    pub stored: Stored,
     pub head: Head,
-    pub tally: Tally,
+    pub tag: LweTag,
     pub checksum: u32,
 }
 
@@ -24,24 +36,37 @@ fn checksum(bytes: &[u8]) -> u32 {
     sum
 }
 
-fn judged(bytes: &[u8]) -> Loaded {
+pub fn stored_as(opened: bool, bytes: &[u8]) -> Stored {
+    if !opened {
+        return Stored::Missing;
+    }
+    if saved::file_refused(bytes) {
+        return Stored::Broken;
+    }
+    Stored::Whole
+}
+
+fn judged(opened: bool, bytes: &[u8]) -> Loaded {
+    let stored = stored_as(opened, bytes);
     let head = saved::head_of(bytes);
-    let tally = saved::tally_at(bytes, 0);
+    let tag = saved::tag_at(bytes, 0);
     Loaded {
         refusal: saved::file_refusal(bytes),
+        stored,
         head,
-        tally,
+        tag,
         checksum: checksum(bytes),
     }
 }
 
 // A file with its words.
 pub fn load(path: &[u8], words: &mut [u32]) -> Loaded {
-    let mut room = [0u8; 65536];
-    let len = programs::read(path, &mut room);
+    let mut room = [0u8; ROOM];
+    let f = programs::read_file(path, &mut room);
+    let len = f.len;
     let bytes: &[u8] = &room;
     saved::words_to(&bytes[0..len], words);
-    judged(&bytes[0..len])
+    judged(f.opened, &bytes[0..len])
 }
 
 fn numbers_to(bytes: &[u8], numbers: &mut [i32]) {
@@ -54,9 +79,10 @@ fn numbers_to(bytes: &[u8], numbers: &mut [i32]) {
 
 // A file with its words as signed numbers.
 pub fn load_numbers(path: &[u8], numbers: &mut [i32]) -> Loaded {
-    let mut room = [0u8; 65536];
-    let len = programs::read(path, &mut room);
+    let mut room = [0u8; ROOM];
+    let f = programs::read_file(path, &mut room);
+    let len = f.len;
     let bytes: &[u8] = &room;
     numbers_to(&bytes[0..len], numbers);
-    judged(&bytes[0..len])
+    judged(f.opened, &bytes[0..len])
 }

@@ -1,13 +1,13 @@
 use mathlib.Core.Logic.{⊎-elim}
 use mathlib.Core.Path.{_≡_, sym, ap, _∙_}
-use mathlib.Core.Bool.{not}
-use Prim.Native.Nat.{_≤_, _-_}
+use mathlib.Core.Bool.{Bool, not}
+use Prim.Native.Nat.{ℕ, _≤_, _-_}
 use native.Mathlib.Omega.{arith}
 use lib.ListN.{length}
 use Rattle.checks.proofs.Laws.{anyFails, any-none}
 use Rattle.scheme.specs.Numbers.{tabulate}
 use Rattle.pooling.specs.Total.{placeFails, talliesFail}
-use Rattle.pooling.proofs.Laws.{scan-hit, scan-more, scan-end, fails-is}
+use Rattle.pooling.proofs.Laws.{scan-hit, scan-more, scan-end}
 use Rattle.pooling.proofs.tallies.tallies_refused.Statement.{statement}
 use Rattle.pooling.proofs.tallies.tallies_refused.Tie as tie
 
@@ -26,16 +26,14 @@ loop-holds c =
 loop-again : tie.Need-loop-again Inv-loop μ-loop
 loop-again c =
     let r = c .before in
-    let f = r .before .before in
-    let l = f .before .before .before in
+    let l = r .before .before in
     let a = l .before .before .before .args in
-    let e = fails-is _ _ _ _ _ (r .sum-refused .ensures) (f .from-number .ensures) (r .before .tally-at .ensures) in (
+    let e = r .place-refused .ensures in
+    let p : ℕ → Bool = λ k. not (placeFails (a .tallies .now) (a .bytes .now) k) in (
       omega arith,
       ⊎-elim
-          (λ w. w .1 ∙ scan-hit (λ k. not (placeFails (a .tallies .now) (a .bytes .now) k)) (length (a .tallies .now)) (λ k. k) (l .loop .i) (omega arith)
-          (ap not (sym e ∙ w .0 .taken)))
-          (λ w. w .1 ∙ scan-more (λ k. not (placeFails (a .tallies .now) (a .bytes .now) k)) (length (a .tallies .now)) (λ k. k) (l .loop .i) (omega arith) (l .loop .inv .1)
-          (ap not (sym e ∙ w .0 .left)))
+          (λ w. w .1 ∙ scan-hit p (length (a .tallies .now)) (λ k. k) (l .loop .i) (omega arith) (ap not (sym e ∙ w .0 .taken)))
+          (λ w. w .1 ∙ scan-more p (length (a .tallies .now)) (λ k. k) (l .loop .i) (omega arith) (l .loop .inv .1) (ap not (sym e ∙ w .0 .left)))
           (c .if1 .came),
     )
 
@@ -49,5 +47,4 @@ returns c =
 pub tallies-refused-spec : {M : Type 1} → statement M
 tallies-refused-spec =
     tie.close
-    (tie.spec Inv-loop μ-loop loop-holds (λ c. omega arith) (λ c. omega arith) (λ c κs. tt) (λ c κs. tt) (λ c κs. tt) (λ c. omega arith)
-    (λ c. omega arith) loop-again returns)
+    (tie.spec Inv-loop μ-loop loop-holds (λ c κs. omega arith) (λ c. omega arith) (λ c. omega arith) loop-again returns)

@@ -2,7 +2,6 @@ use mathlib.Core.Path.{_≡_, sym, _∙_}
 use borrow.Author.Needs.{needs}
 use Rattle.scheme.proofs.Order.{told, given}
 use Rattle.pooling.specs.Total.{totalRefusal}
-use Rattle.pooling.proofs.Laws.{summable, positive}
 use Rattle.pooling.proofs.total.add_saved.Statement.{statement}
 use Rattle.pooling.proofs.total.add_saved.Tie as tie
 
@@ -24,13 +23,11 @@ none c = sym (c .before .total-refusal .ensures) ∙ c .if1 .left
 
 returns-2 : tie.Need-returns-2
 returns-2 c =
-    let t = c .before .before in
-    let w = t .before .before .before .before in
-    let z = none (w .before .before) in
-    record { answered = sym z; adds = given _ _ _ _ z (w .add-words .ensures); tallied = given _ _ _ _ z (t .add-tallies .ensures) }
+    let w = c .before .before .before .before in
+    let z = none (w .before .before .before) in
+    record { answered = sym z; adds = given _ _ _ _ z (w .add-rows .ensures .0); tallied = given _ _ _ _ z (w .add-rows .ensures .1) }
 
 pub add-saved-spec : {M : Type 1} → statement M
 add-saved-spec =
     tie.close
-    (tie.spec (λ c κs. tt) (λ c. search needs) (λ c. search needs) returns (λ c κs. positive _ _ _ _ (none (c .before)))
-    (λ c κs. summable _ _ _ _ (none (c .before .before .before .before .before))) (λ c. search needs) (λ c. search needs) returns-2)
+    (tie.spec (λ c κs. tt) (λ c. search needs) (λ c. search needs) returns (λ c κs. none (c .before .before)) (λ c. search needs) (λ c. search needs) returns-2)

@@ -1,3 +1,4 @@
+use Rattle.pooling.specs.Total.{totalRows}
 use Rattle.pooling.proofs.Laws.{foreign-is, own-is}
 use Rattle.pooling.proofs.total.total_refusal.Statement.{statement}
 use Rattle.pooling.proofs.total.total_refusal.Tie as tie
@@ -7,7 +8,7 @@ returns c =
     let u = c .before in
     let h = u .before in
     let a = h .before .before .before .before .args in
-    foreign-is (a .params) (a .bytes .now) (a .total .now) (a .tallies .now) (h .head-of .ensures) (u .foreign .ensures) (c .if1 .taken)
+    foreign-is (λ h. totalRows (a .params) h (a .bytes .now) (a .total .now) (a .tallies .now)) (h .head-of .ensures) (u .foreign .ensures) (c .if1 .taken)
 
 returns-2 : tie.Need-returns-2
 returns-2 c =
@@ -15,7 +16,7 @@ returns-2 c =
     let u = e .before in
     let h = u .before in
     let a = h .before .before .before .before .args in
-    own-is (a .params) (a .bytes .now) (a .total .now) (a .tallies .now) (h .head-of .ensures) (u .foreign .ensures) (e .if1 .left)
+    own-is (λ h. totalRows (a .params) h (a .bytes .now) (a .total .now) (a .tallies .now)) (h .head-of .ensures) (u .foreign .ensures) (e .if1 .left)
     (c .judged .ensures)
 
 pub total-refusal-spec : {M : Type 1} → statement M

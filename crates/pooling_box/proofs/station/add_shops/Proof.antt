@@ -16,5 +16,5 @@ abbrev μ-loop : tie.MeasureT-loop
 pub add-shops-spec : {M : Type 1} → statement M
 add-shops-spec =
     tie.close
-    (tie.spec Inv-loop μ-loop (λ c. (omega arith, refl, refl, refl)) (λ c κs. tt) (λ c. search needs) (λ c κs. tt) (λ c κs. tt) (λ c. omega arith)
+    (tie.spec Inv-loop μ-loop (λ c. (omega arith, refl, refl, refl)) (λ c κs. tt) (λ c. search needs) (λ c κs. tt) (λ c. omega arith)
     (λ c. omega arith) (λ c. search needs) (λ c. search needs) (λ c. search needs) (λ c. search needs) (λ c. tt))
