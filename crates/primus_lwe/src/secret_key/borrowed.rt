@@ -85,16 +85,8 @@ fn encrypt_encoded(
     ensures { λ r. ⌜ Encrypts params (keyOf form (now (words .entry)) (now (signed .entry))) (now (mask .entry))
         (now (errors .entry)) plaintext (now (out .entry)) r (now (out .exit)) ⌝ }
 {
-    let r = encrypt_refusal(
-        params,
-        form,
-        words,
-        signed,
-        mask,
-        errors,
-        plaintext,
-        out.len(),
-    );
+    let room = out.len();
+    let r = encrypt_refusal(params, form, words, signed, mask, errors, plaintext, room);
     if r != 0 {
         return LweAnswer::Refused(r);
     }

@@ -61,16 +61,8 @@ fn encrypt_message(
     ensures { λ r. ⌜ EncryptsMessage params embedding (keyOf form (now (words .entry)) (now (signed .entry)))
         (now (mask .entry)) (now (errors .entry)) message (now (out .entry)) r (now (out .exit)) ⌝ }
 {
-    let r = message_refusal(
-        params,
-        form,
-        words,
-        signed,
-        mask,
-        errors,
-        message,
-        out.len(),
-    );
+    let room = out.len();
+    let r = message_refusal(params, form, words, signed, mask, errors, message, room);
     if r != 0 {
         return LweAnswer::Refused(r);
     }
