@@ -14,14 +14,12 @@ use Rattle.scheme.proofs.Checks.{length-ok, words-ok}
 use Rattle.scheme.proofs.Order.{passed, neither}
 use Rattle.primus_reduce.specs.Ring.{sizeOf}
 use Rattle.gadget_constants.specs.declared.prepared.PreparedBasis.{PreparedBasis}
-use Rattle.primus_decompose.specs.declared.error.PreparedBasisAnswer.{PreparedBasisAnswer}
-use Rattle.primus_decompose.specs.declared.error.PreparedBasisAnswer.the-variants as A
-use Rattle.primus_decompose.specs.Answers.{basis, preparedBy, preparedAnswer, WhereReady}
+use Rattle.primus_decompose.specs.Answers.{basis, preparedBy}
 use Rattle.gadget_constants.specs.Prepared.{Ready, basisIn}
 use Rattle.key_switch_tile.specs.Tile.{Shaped}
 use Rattle.key_switch_key.specs.declared.parameters.LweKeySwitchingParameters.{LweKeySwitchingParameters}
 use Rattle.key_switch_key.specs.Answers.{qIn, nIn, mIn}
-use Rattle.key_switch_key.proofs.Passed.{prepared-made, prepared-not, judged}
+use Rattle.key_switch_key.proofs.Passed.{judged}
 use Rattle.key_switch.specs.Answers.{inputRows, switchRows, batchRows, Switchable}
 
 batch-whole : (len n : ℕ) → batchFails len n ≡ false → len ≡ len / (n + 1) * (n + 1)
@@ -74,28 +72,22 @@ module _ (P : LweKeySwitchingParameters) (key input : List ℕ) (room : ℕ) whe
 
 -- what the tiles ask, with the basis prepared and the numbers at hand
 module _ {P : LweKeySwitchingParameters} {key input : List ℕ} {count room : ℕ} (s : Switchable P key input count room)
-    {r : PreparedBasisAnswer} (er : (r ≡ preparedAnswer (P .basis)) × WhereReady r) where
-  pub switches-ready : {k : ℕ} → r ≡ A.Refused k → ⊥
-  switches-ready f = prepared-not (P .basis) (s .accepted) er f
+    {p : PreparedBasis} (made : Ready p × (p ≡ preparedBy (P .basis))) {n m : ℕ} (en : n ≡ nIn P) (em : m ≡ mIn P) where
+  pub tiles-ask : Shaped p n m count input key × (room ≡ count * (m + 1))
+  tiles-ask =
+      let ep = made .1 in
+      rw (en, em) (
+        record {
+          ready = made .0;
+          narrow = s .narrow;
+          short = s .short;
+          inputs = s .inputs;
+          keyed = s .keyed ∙ ap (λ x. nIn P * x .«level_count» * (mIn P + 1)) (sym ep);
+          words = λ i h. subst (λ x. getD input i 0 < sizeOf (x .modulus)) (sym ep) (s .words i h);
+          keys = λ i h. subst (λ x. getD key i 0 < sizeOf (x .modulus)) (sym ep) (s .keys i h);
+        },
+        s .fits,
+      )
 
-  module _ {p : PreparedBasis} (f : r ≡ A.Ready p) {n m : ℕ} (en : n ≡ nIn P) (em : m ≡ mIn P) where
-    ep : p ≡ preparedBy (P .basis)
-    ep = prepared-made (P .basis) (s .accepted) er f .0
-
-    pub tiles-ask : Shaped p n m count input key × (room ≡ count * (m + 1))
-    tiles-ask =
-        rw (en, em) (
-          record {
-            ready = prepared-made (P .basis) (s .accepted) er f .1;
-            narrow = s .narrow;
-            short = s .short;
-            inputs = s .inputs;
-            keyed = s .keyed ∙ ap (λ x. nIn P * x .«level_count» * (mIn P + 1)) (sym ep);
-            words = λ i h. subst (λ x. getD input i 0 < sizeOf (x .modulus)) (sym ep) (s .words i h);
-            keys = λ i h. subst (λ x. getD key i 0 < sizeOf (x .modulus)) (sym ep) (s .keys i h);
-          },
-          s .fits,
-        )
-
-    pub tiles-are : switchedBatch (basisIn p) n m key count input ≡ switchedBatch (basis (P .basis)) (nIn P) (mIn P) key count input
-    tiles-are = ap₂ (λ n m. switchedBatch (basisIn p) n m key count input) en em ∙ ap (λ x. switchedBatch (basisIn x) (nIn P) (mIn P) key count input) ep
+  pub tiles-are : switchedBatch (basisIn p) n m key count input ≡ switchedBatch (basis (P .basis)) (nIn P) (mIn P) key count input
+  tiles-are = ap₂ (λ n m. switchedBatch (basisIn p) n m key count input) en em ∙ ap (λ x. switchedBatch (basisIn x) (nIn P) (mIn P) key count input) (made .1)

@@ -17,7 +17,6 @@ pub use key_switch_key::LweKeySwitchingParameters;
 pub use key_switch_key::LweKeySwitchingParametersAnswer;
 use lwe_tag::LweAnswer;
 use lwe_tag::LweTag;
-use primus_decompose::PreparedBasisAnswer;
 
 // The first refusal of a switch, or 0, where 10 and 11 are judged by the caller.
 pub(crate) fn switch_refusal(
@@ -43,7 +42,7 @@ pub(crate) fn switch_refusal(
     v.first()
 }
 
-// `count` ciphertexts whose checks have passed, so that the basis does not refuse.
+// `count` ciphertexts whose checks have passed.
 pub(crate) fn switch_judged(
     out: &mut [u32],
     input: &[u32],
@@ -57,14 +56,8 @@ pub(crate) fn switch_judged(
 {
     let n = params.input_dimension;
     let m = params.output_dimension;
-    let basis = params.basis;
-    let prepared = basis.prepare();
-    match prepared {
-        PreparedBasisAnswer::Ready(p) => {
-            switch_tiles(out, input, key, n.get(), m.get(), count, p);
-        }
-        PreparedBasisAnswer::Refused(_) => {}
-    }
+    let p = params.prepared();
+    switch_tiles(out, input, key, n.get(), m.get(), count, p);
 }
 
 // One ciphertext, as a batch of one row; no tally. Refuses by 1 to 6, 9, 10, 11, 14.

@@ -15,31 +15,11 @@ use Rattle.scheme.specs.Switch.{entryNumber}
 use Rattle.scheme.specs.Checks.{Check, refusal, dimensionFails}
 use Rattle.scheme.proofs.Checks.{dimension-ok, length-ok}
 use Rattle.scheme.proofs.Order.{passed, passed-part, neither}
-use Rattle.primus_decompose.specs.declared.primitive.basis.ApproxSignedBasis.{ApproxSignedBasis}
-use Rattle.gadget_constants.specs.declared.prepared.PreparedBasis.{PreparedBasis}
-use Rattle.primus_decompose.specs.declared.error.PreparedBasisAnswer.{PreparedBasisAnswer}
-use Rattle.primus_decompose.specs.declared.error.PreparedBasisAnswer.the-variants as A
-use Rattle.primus_decompose.specs.Answers.{rows, preparedAnswer, preparedBy, WhereReady}
-use Rattle.gadget_constants.specs.Prepared.{Ready}
+use Rattle.primus_decompose.specs.Answers.{rows}
 use Rattle.key_switch_key.specs.declared.parameters.LweKeySwitchingParameters.{LweKeySwitchingParameters}
 use Rattle.key_switch_key.specs.Answers.{nIn, mIn, levelsIn, parameterRows, keyWords, entryRows, entryMissing, entryAnswer, entryPart}
 use Rattle.key_switch_key.specs.declared.key.EntryAnswer.{EntryAnswer}
 use Rattle.key_switch_key.specs.declared.key.EntryAnswer.the-variants as E
-
--- ---- an accepted basis is prepared
-
-module _ (b : ApproxSignedBasis) (z : refusal (rows b) ≡ 0) {r : PreparedBasisAnswer} (e : (r ≡ preparedAnswer b) × WhereReady r) where
-  answer-is : r ≡ A.Ready (preparedBy b)
-  answer-is = e .0 ∙ plain
-    where
-      plain : preparedAnswer b ≡ A.Ready (preparedBy b)
-      plain = rw (eq-eqb (refusal (rows b)) 0 z)
-
-  pub prepared-made : {p : PreparedBasis} → r ≡ A.Ready p → (p ≡ preparedBy b) × Ready p
-  prepared-made {p} f = let g : A.Ready p ≡ A.Ready (preparedBy b) = sym f ∙ answer-is in (cc, subst WhereReady f (e .1))
-
-  pub prepared-not : {k : ℕ} → r ≡ A.Refused k → ⊥
-  prepared-not {k} f = let g : A.Refused k ≡ A.Ready (preparedBy b) = sym f ∙ answer-is in let k : _≡_ {A = ℕ} 0 1 = cc in omega arith
 
 -- ---- parameters
 
