@@ -8,7 +8,6 @@ ghost use Rattle.saved.specs.Layout.{fileFails, fileWords};
 ghost use Rattle.pooling.specs.Total.{otherFails, sizeRows, beginRows, totalRows, beginRefusal, totalRefusal};
 ghost use Rattle.pooling.specs.Total.{BeginsSaved, AddsSaved};
 use crate::rows;
-use crate::tallies;
 use checks::Sizes;
 use checks::Values;
 use primus_lattice::LweDimension;
@@ -107,7 +106,7 @@ fn begin_judged(params: PoolParameters, h: Head, bytes: &[u8], len: usize, place
     let modulus = params.modulus;
     let mut v = Values::NONE;
     v.word = file_words_refused(modulus, bytes, h.words as usize);
-    v.tally = tallies::saved_refused(places, bytes);
+    v.tally = pooling_rows::saved_refused(places, bytes);
     v.first()
 }
 
@@ -122,7 +121,7 @@ fn judged(params: PoolParameters, h: Head, bytes: &[u8], total: &[u32], tallies:
     let modulus = params.modulus;
     let mut v = Values::NONE;
     v.word = words_refused(modulus, total, bytes, h);
-    v.tally = tallies::tallies_refused(tallies, bytes);
+    v.tally = pooling_rows::tallies_refused(tallies, bytes);
     v.first()
 }
 
@@ -164,7 +163,7 @@ pub fn begin_saved(
         return refusal;
     }
     saved::words_to(bytes, total);
-    tallies::write_tallies(tallies, bytes);
+    pooling_rows::write_tallies(tallies, bytes);
     0
 }
 

@@ -2,8 +2,8 @@ use mathlib.Core.Path.{ap₂, _∙_}
 use borrow.Author.Needs.{needs}
 use Rattle.scheme.specs.Checks.{applies}
 use Rattle.lwe_tag.specs.Answers.{tagRows}
-use Rattle.pooling.proofs.tallies.place_refused.Statement.{statement}
-use Rattle.pooling.proofs.tallies.place_refused.Tie as tie
+use Rattle.pooling_rows.proofs.tallies.place_refused.Statement.{statement}
+use Rattle.pooling_rows.proofs.tallies.place_refused.Tie as tie
 
 returns : tie.Need-returns
 returns c =

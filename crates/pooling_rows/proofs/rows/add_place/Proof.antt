@@ -1,8 +1,8 @@
 use mathlib.Core.Path.{_∙_}
 use borrow.Author.Needs.{needs}
-use Rattle.pooling.proofs.Places.{place-words, place-tag, place-never}
-use Rattle.pooling.proofs.rows.add_place.Statement.{statement}
-use Rattle.pooling.proofs.rows.add_place.Tie as tie
+use Rattle.pooling_rows.proofs.Places.{place-words, place-tag, place-never}
+use Rattle.pooling_rows.proofs.rows.add_place.Statement.{statement}
+use Rattle.pooling_rows.proofs.rows.add_place.Tie as tie
 
 returns : tie.Need-returns
 returns c =

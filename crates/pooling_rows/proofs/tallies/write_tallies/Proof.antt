@@ -4,9 +4,9 @@ use native.Mathlib.Omega.{arith}
 use lib.ListN.{length}
 use Rattle.scheme.proofs.InPlace.{Filled, filled-end, tabled-start, tabled-next}
 use Rattle.saved.specs.Layout.{savedTag}
-use Rattle.pooling.specs.Total.{savedTallies}
-use Rattle.pooling.proofs.tallies.write_tallies.Statement.{statement}
-use Rattle.pooling.proofs.tallies.write_tallies.Tie as tie
+use Rattle.pooling_rows.specs.Rows.{savedTallies}
+use Rattle.pooling_rows.proofs.tallies.write_tallies.Statement.{statement}
+use Rattle.pooling_rows.proofs.tallies.write_tallies.Tie as tie
 
 abbrev Inv-loop : tie.InvT-loop
 Inv-loop tallies₀ bytes i₀ tallies i = Filled (savedTallies (length tallies₀) bytes) tallies₀ tallies i

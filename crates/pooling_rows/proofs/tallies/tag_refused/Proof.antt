@@ -1,8 +1,8 @@
 use mathlib.Core.Path.{ap, _∙_}
 use Rattle.scheme.specs.Tally.{tallyFails}
 use Rattle.lwe_tag.specs.Answers.{cap, tallyOf}
-use Rattle.pooling.proofs.tallies.tag_refused.Statement.{statement}
-use Rattle.pooling.proofs.tallies.tag_refused.Tie as tie
+use Rattle.pooling_rows.proofs.tallies.tag_refused.Statement.{statement}
+use Rattle.pooling_rows.proofs.tallies.tag_refused.Tie as tie
 
 returns : tie.Need-returns
 returns c = c .refused .ensures ∙ ap (λ g. tallyFails cap (tallyOf g)) (c .before .tag-at .ensures)

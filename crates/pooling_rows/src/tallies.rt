@@ -2,7 +2,7 @@
 ghost use mathlib.Core.Path.{_≡_};
 ghost use Prim.Native.Nat.{_<_};
 ghost use lib.ListN.{length};
-ghost use Rattle.pooling.specs.Total.{talliesFail, savedFail, placeFails, savedTallies};
+ghost use Rattle.pooling_rows.specs.Rows.{talliesFail, savedFail, placeFails, savedTallies};
 ghost use Rattle.lwe_tag.specs.Answers.{cap, tallyOf};
 ghost use Rattle.scheme.specs.Tally.{tallyFails};
 ghost use Rattle.saved.specs.Layout.{savedTag};
@@ -18,7 +18,7 @@ fn place_refused(tallies: &[u64], bytes: &[u8], i: usize) -> bool
 }
 
 // 17, at some place.
-pub(crate) fn tallies_refused(tallies: &[u64], bytes: &[u8]) -> bool
+pub fn tallies_refused(tallies: &[u64], bytes: &[u8]) -> bool
     ensures { λ r. ⌜ r ≡ talliesFail (now (tallies .entry)) (now (bytes .entry)) ⌝ }
 {
     let mut any = false;
@@ -41,7 +41,7 @@ fn tag_refused(bytes: &[u8], i: usize) -> bool
 }
 
 // 17, one of the first `places` tallies of the file.
-pub(crate) fn saved_refused(places: usize, bytes: &[u8]) -> bool
+pub fn saved_refused(places: usize, bytes: &[u8]) -> bool
     ensures { λ r. ⌜ r ≡ savedFail places (now (bytes .entry)) ⌝ }
 {
     let mut any = false;
@@ -56,7 +56,7 @@ pub(crate) fn saved_refused(places: usize, bytes: &[u8]) -> bool
 }
 
 // The tallies of the file, as those of a total.
-pub(crate) fn write_tallies(tallies: &mut [u64], bytes: &[u8])
+pub fn write_tallies(tallies: &mut [u64], bytes: &[u8])
     ensures { λ _. ⌜ now (tallies .exit) ≡ savedTallies (length (now (tallies .entry))) (now (bytes .entry)) ⌝ }
 {
     let mut i = 0;

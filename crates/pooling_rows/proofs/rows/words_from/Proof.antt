@@ -3,9 +3,9 @@ use native.Mathlib.Omega.{arith}
 use lib.ListN.{length}
 use Rattle.scheme.proofs.InPlace.{Filled, filled-end, tabled-start, tabled-next}
 use Rattle.saved.specs.Layout.{fileWord}
-use Rattle.pooling.specs.Total.{wordsFrom}
-use Rattle.pooling.proofs.rows.words_from.Statement.{statement}
-use Rattle.pooling.proofs.rows.words_from.Tie as tie
+use Rattle.pooling_rows.specs.Rows.{wordsFrom}
+use Rattle.pooling_rows.proofs.rows.words_from.Statement.{statement}
+use Rattle.pooling_rows.proofs.rows.words_from.Tie as tie
 
 abbrev Inv-loop : tie.InvT-loop
 Inv-loop out₀ bytes at k₀ out k = Filled (wordsFrom bytes at (length out₀)) out₀ out k

@@ -8,10 +8,10 @@ use Rattle.lwe_tag.specs.Answers.{cap, tallyOf}
 use Rattle.saved.specs.Layout.{savedTag}
 use Rattle.checks.proofs.Laws.{anyFails, any-none}
 use Rattle.scheme.specs.Numbers.{tabulate}
-use Rattle.pooling.specs.Total.{savedFail}
-use Rattle.pooling.proofs.Laws.{scan-hit, scan-more, scan-end}
-use Rattle.pooling.proofs.tallies.saved_refused.Statement.{statement}
-use Rattle.pooling.proofs.tallies.saved_refused.Tie as tie
+use Rattle.pooling_rows.specs.Rows.{savedFail}
+use Rattle.pooling_rows.proofs.Laws.{scan-hit, scan-more, scan-end}
+use Rattle.pooling_rows.proofs.tallies.saved_refused.Statement.{statement}
+use Rattle.pooling_rows.proofs.tallies.saved_refused.Tie as tie
 
 abbrev Inv-loop : tie.InvT-loop
 Inv-loop places bytes any₀ i₀ any i =

@@ -6,10 +6,10 @@ use native.Mathlib.Omega.{arith}
 use lib.ListN.{length}
 use Rattle.checks.proofs.Laws.{anyFails, any-none}
 use Rattle.scheme.specs.Numbers.{tabulate}
-use Rattle.pooling.specs.Total.{placeFails, talliesFail}
-use Rattle.pooling.proofs.Laws.{scan-hit, scan-more, scan-end}
-use Rattle.pooling.proofs.tallies.tallies_refused.Statement.{statement}
-use Rattle.pooling.proofs.tallies.tallies_refused.Tie as tie
+use Rattle.pooling_rows.specs.Rows.{placeFails, talliesFail}
+use Rattle.pooling_rows.proofs.Laws.{scan-hit, scan-more, scan-end}
+use Rattle.pooling_rows.proofs.tallies.tallies_refused.Statement.{statement}
+use Rattle.pooling_rows.proofs.tallies.tallies_refused.Tie as tie
 
 abbrev Inv-loop : tie.InvT-loop
 Inv-loop tallies bytes any₀ i₀ any i =

@@ -1,9 +1,9 @@
 use native.Mathlib.Omega.{arith}
 use borrow.Author.Needs.{needs}
 use Rattle.primus_reduce.specs.Ring.{sizeOf}
-use Rattle.pooling.proofs.Places.{room-fits, row-ready, row-is}
-use Rattle.pooling.proofs.rows.add_row.Statement.{statement}
-use Rattle.pooling.proofs.rows.add_row.Tie as tie
+use Rattle.pooling_rows.proofs.Places.{room-fits, row-ready, row-is}
+use Rattle.pooling_rows.proofs.rows.add_row.Statement.{statement}
+use Rattle.pooling_rows.proofs.rows.add_row.Tie as tie
 
 add-place-requires : tie.Need-add-place-requires
 add-place-requires c κs =
