@@ -1,15 +1,19 @@
--- Readers fed byte by byte.
+-- Readers fed byte by byte, and the end of a run.
 -- Assumes nothing.
 use mathlib.Core.Path.{_≡_, refl, sym, ap, _∙_}
+use mathlib.Core.Bool.{Bool, true, false}
 use mathlib.Core.List.{List, [], _∷_, _++_}
 use Prim.Native.Nat.{ℕ, zero, suc, _+_, _≤_, _<_}
 use native.Mathlib.Numerals.{add-one}
 use native.Mathlib.Omega.{arith}
 use lib.ListN.{length, take, getD}
 use lib.Seq.{take-suc}
-use Rattle.readings_core.specs.Run.{start, fed, fedAll, finished, Read, Ran}
+use Rattle.scheme.specs.Numbers.{pick}
+use Rattle.readings_core.specs.Program.{over}
+use Rattle.readings_core.specs.Run.{silent, start, fed, finished}
 use Rattle.readings_core.specs.declared.command.Turn.{Turn}
 use Rattle.readings_core.specs.declared.reader.Reader.{Reader}
+use Rattle.readings_text.specs.Text.{fedAll, Read, Ran}
 
 pub fed-none : (m : Reader) → m ≡ fedAll m []
 unfolding fedAll
@@ -36,3 +40,12 @@ read-more {a} {b} {c} r s =
 
 pub ran : {m : Reader} {t : Turn} → Read start m → t ≡ finished m → Ran t
 ran r e = record { bytes = r .bytes; last = e ∙ ap finished (r .fed-so) }
+
+-- a run has ended, whatever the bytes were
+pub run-ends : {t : Turn} → Ran t → t .more ≡ false
+unfolding finished
+run-ends {t} r = ap (λ t. t .more) (r .last) ∙ go (fedAll start (r .bytes) .begun)
+  where
+    go : (b : Bool) → pick b (over (fedAll start (r .bytes) .turn .session)) (silent (fedAll start (r .bytes) .turn .session) false) .more ≡ false
+    go true = refl
+    go false = refl

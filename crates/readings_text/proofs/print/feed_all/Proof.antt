@@ -4,10 +4,10 @@ use native.Mathlib.Omega.{arith}
 use lib.ListN.{length, take}
 use lib.Seq.{take-all}
 use borrow.Author.Needs.{needs}
-use Rattle.readings_core.specs.Run.{fedAll}
-use Rattle.readings_core.proofs.Runs.{fed-none, fed-next}
-use Rattle.readings_core.proofs.print.feed_all.Statement.{statement}
-use Rattle.readings_core.proofs.print.feed_all.Tie as tie
+use Rattle.readings_text.specs.Text.{fedAll}
+use Rattle.readings_text.proofs.Runs.{fed-none, fed-next}
+use Rattle.readings_text.proofs.print.feed_all.Statement.{statement}
+use Rattle.readings_text.proofs.print.feed_all.Tie as tie
 
 abbrev Inv-loop : tie.InvT-loop
 Inv-loop bytes output m₀ i₀ m i = (i ≤ length bytes) × (m ≡ fedAll m₀ (take i bytes))

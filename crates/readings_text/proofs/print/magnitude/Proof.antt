@@ -1,6 +1,6 @@
-use Rattle.readings_core.proofs.Signs.{above, below, above-fits, below-fits, below-cast, below-sum, below-abs, plain-cast, plain-abs}
-use Rattle.readings_core.proofs.print.magnitude.Statement.{statement}
-use Rattle.readings_core.proofs.print.magnitude.Tie as tie
+use Rattle.readings_text.proofs.Signs.{above, below, above-fits, below-fits, below-cast, below-sum, below-abs, plain-cast, plain-abs}
+use Rattle.readings_text.proofs.print.magnitude.Statement.{statement}
+use Rattle.readings_text.proofs.print.magnitude.Tie as tie
 
 add-below : tie.Need-add-below
 unfolding above

@@ -1,6 +1,6 @@
 use borrow.Author.Needs.{needs}
-use Rattle.readings_core.proofs.print.feed_some.Statement.{statement}
-use Rattle.readings_core.proofs.print.feed_some.Tie as tie
+use Rattle.readings_text.proofs.print.feed_some.Statement.{statement}
+use Rattle.readings_text.proofs.print.feed_some.Tie as tie
 
 returns : tie.Need-returns
 returns c = record { bytes = _; fed-so = c .feed-all .ensures }

@@ -1,7 +1,7 @@
 use Prim.Native.Nat.{_≤_, _-_}
 use borrow.Author.Needs.{needs}
-use Rattle.readings_core.proofs.print.print_digits.Statement.{statement}
-use Rattle.readings_core.proofs.print.print_digits.Tie as tie
+use Rattle.readings_text.proofs.print.print_digits.Statement.{statement}
+use Rattle.readings_text.proofs.print.print_digits.Tie as tie
 
 pub print-digits-spec : {M : Type 1} → statement M
 print-digits-spec =

@@ -1,10 +1,11 @@
 use mathlib.Core.Path.{_∙_}
 use mathlib.Core.List.{[]}
 use borrow.Author.Needs.{needs}
-use Rattle.readings_core.specs.Run.{start, Read}
-use Rattle.readings_core.proofs.Runs.{fed-none, read-more, ran}
-use Rattle.readings_core.proofs.print.run.Statement.{statement}
-use Rattle.readings_core.proofs.print.run.Tie as tie
+use Rattle.readings_core.specs.Run.{start}
+use Rattle.readings_text.specs.Text.{Read}
+use Rattle.readings_text.proofs.Runs.{fed-none, read-more, ran}
+use Rattle.readings_text.proofs.print.run.Statement.{statement}
+use Rattle.readings_text.proofs.print.run.Tie as tie
 
 abbrev Inv-loop : tie.InvT-loop
 Inv-loop input output m₀ reads₀ m reads = Read start m
