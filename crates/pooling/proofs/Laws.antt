@@ -15,7 +15,7 @@ use Rattle.scheme.proofs.Lists.{length-tabulate, getD-tabulate}
 use Rattle.checks.proofs.Laws.{anyFails}
 use Rattle.scheme.proofs.Order.{Sized}
 use Rattle.lwe_tag.specs.Answers.{cap, tallyOf}
-use Rattle.saved.specs.declared.head.Head.{Head}
+use Rattle.saved_head.specs.declared.head.Head.{Head}
 use Rattle.saved.specs.Layout.{savedTag}
 use Rattle.pooling.specs.declared.total.PoolParameters.{PoolParameters}
 use Rattle.pooling_rows.specs.Rows.{somewhere, placeFails, talliesFail, savedFail}

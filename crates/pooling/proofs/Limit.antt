@@ -18,7 +18,8 @@ use Rattle.little_endian.proofs.Laws.{four}
 use Rattle.primus_reduce.specs.Ring.{modulusFor}
 use Rattle.lwe_tag.specs.declared.LweTag.{LweTag}
 use Rattle.lwe_tag.specs.Answers.{cap, tallyOf, tagRows}
-use Rattle.saved.specs.Layout.{headOf, fileWord, fileWords, savedTag}
+use Rattle.saved_head.specs.Head.{headOf}
+use Rattle.saved.specs.Layout.{fileWord, fileWords, savedTag}
 use Rattle.pooling.specs.declared.total.PoolParameters.{PoolParameters}
 use Rattle.pooling_rows.specs.Rows.{placeTag, sumNumber, placeSum, placeFails, talliesFail, savedFail, addTallies, savedTallies}
 use Rattle.pooling.specs.Total.{beginRows, totalRows, fileRefusal, beginRefusal, totalRefusal, BeginsSaved, AddsSaved}

@@ -25,7 +25,8 @@ use Rattle.primus_reduce.specs.declared.modulus.Modulus.{Modulus}
 use Rattle.lwe_tag.specs.declared.LweTag.{LweTag}
 use Rattle.lwe_tag.specs.Answers.{tagRows}
 use Rattle.primus_lattice.specs.Answers.{addRows}
-use Rattle.saved.specs.Layout.{headOf, fileWord, fileWords, savedTag}
+use Rattle.saved_head.specs.Head.{headOf}
+use Rattle.saved.specs.Layout.{fileWord, fileWords, savedTag}
 use Rattle.pooling.specs.declared.total.PoolParameters.{PoolParameters}
 use Rattle.pooling_rows.specs.Rows.{tagFor, placeTag, sumNumber, placeSum, addTallies, wordsFrom, rowAt, replacedRow}
 use Rattle.pooling.specs.Total.{totalRows, totalRefusal}

@@ -12,8 +12,9 @@ use Rattle.scheme.specs.Checks.{Check, row, applies, refusal}
 use Rattle.scheme.specs.Checks.{modulusFails, dimensionFails, plaintextFails, smallFails, lengthFails, wordsFail}
 use Rattle.primus_reduce.specs.Ring.{meant, sizeOf, numberOf}
 use Rattle.primus_reduce.specs.declared.modulus.Modulus.{Modulus}
-use Rattle.saved.specs.declared.head.Head.{Head}
-use Rattle.saved.specs.Layout.{headOf, fileRows, fileWords}
+use Rattle.saved_head.specs.declared.head.Head.{Head}
+use Rattle.saved_head.specs.Head.{headOf, fileRows}
+use Rattle.saved.specs.Layout.{fileWords}
 use Rattle.pooling_rows.specs.Rows.{talliesFail, savedFail, addTallies, savedTallies}
 use Rattle.pooling.specs.declared.total.PoolParameters.{PoolParameters}
 

@@ -2,8 +2,8 @@
 ghost use mathlib.Core.Path.{_≡_};
 ghost use lib.ListN.{length};
 ghost use Rattle.scheme.specs.Numbers.{pick};
-ghost use Rattle.saved.specs.Layout.{headOf, fileFails};
-ghost use Rattle.saved.specs.Layout.{signatureFails, kindFails, besideFails, keptFails, sizeFails};
+ghost use Rattle.saved_head.specs.Head.{headOf, fileFails};
+ghost use Rattle.saved_head.specs.Head.{signatureFails, kindFails, besideFails, keptFails, sizeFails};
 use primus_reduce::Modulus;
 
 // What the words are, and what they were made with; 0 where a number does not apply.

@@ -1,6 +1,6 @@
 use borrow.Author.Tests.{eq-eqb, ne-eqb}
-use Rattle.saved.proofs.head.beside_refused.Statement.{statement}
-use Rattle.saved.proofs.head.beside_refused.Tie as tie
+use Rattle.saved_head.proofs.head.beside_refused.Statement.{statement}
+use Rattle.saved_head.proofs.head.beside_refused.Tie as tie
 
 returns : tie.Need-returns
 returns c = rw (eq-eqb _ _ (c .if1 .taken))

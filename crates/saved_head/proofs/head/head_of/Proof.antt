@@ -1,7 +1,7 @@
 use borrow.Author.Needs.{needs}
-use Rattle.saved.specs.Layout.{headOf}
-use Rattle.saved.proofs.head.head_of.Statement.{statement}
-use Rattle.saved.proofs.head.head_of.Tie as tie
+use Rattle.saved_head.specs.Head.{headOf}
+use Rattle.saved_head.proofs.head.head_of.Statement.{statement}
+use Rattle.saved_head.proofs.head.head_of.Tie as tie
 
 returns : tie.Need-returns
 unfolding headOf

@@ -1,9 +1,9 @@
 use mathlib.Core.Path.{refl, ap, ap₂, _∙_}
 use mathlib.Core.Bool.{_||_}
 use lib.ListN.{length}
-use Rattle.saved.specs.Layout.{headOf, kindFails, besideFails, sizeFails}
-use Rattle.saved.proofs.head.file_refused.Statement.{statement}
-use Rattle.saved.proofs.head.file_refused.Tie as tie
+use Rattle.saved_head.specs.Head.{headOf, kindFails, besideFails, sizeFails}
+use Rattle.saved_head.proofs.head.file_refused.Statement.{statement}
+use Rattle.saved_head.proofs.head.file_refused.Tie as tie
 
 returns : tie.Need-returns
 unfolding headOf

@@ -1,6 +1,6 @@
 use borrow.Author.Tests.{lt-ltb, le-ltb}
-use Rattle.saved.proofs.head.kind_unknown.Statement.{statement}
-use Rattle.saved.proofs.head.kind_unknown.Tie as tie
+use Rattle.saved_head.proofs.head.kind_unknown.Statement.{statement}
+use Rattle.saved_head.proofs.head.kind_unknown.Tie as tie
 
 returns : tie.Need-returns
 returns c = rw (lt-ltb _ _ (c .if1 .taken))

@@ -10,7 +10,7 @@ use lib.Dec.{eqb}
 use lib.ListN.{length}
 use borrow.Author.Tests.{ne-eqb}
 use Rattle.scheme.specs.Numbers.{pick}
-use Rattle.saved.specs.Layout.{wordsOf, countOf, besideOf, fileFails}
+use Rattle.saved_head.specs.Head.{wordsOf, countOf, besideOf, fileFails}
 
 differs : (len w c k : ℕ) (b : Bool) → len ≡ 4 * k + 1 → not (eqb len (64 + 4 * w + pick b (8 * c) 0)) ≡ true
 differs len w c k true e = ap not (ne-eqb len (64 + 4 * w + 8 * c) (λ z. omega arith))

@@ -4,8 +4,8 @@ use native.Mathlib.Omega.{arith}
 use lib.Dec.{eqb}
 use borrow.Author.Needs.{needs}
 use borrow.Author.Tests.{eq-eqb, ne-eqb}
-use Rattle.saved.proofs.head.size_differs.Statement.{statement}
-use Rattle.saved.proofs.head.size_differs.Tie as tie
+use Rattle.saved_head.proofs.head.size_differs.Statement.{statement}
+use Rattle.saved_head.proofs.head.size_differs.Tie as tie
 
 returns : tie.Need-returns
 returns c = rw (eq-eqb _ _ (c .if1 .taken))

@@ -2,8 +2,8 @@ use mathlib.Core.Path.{ap}
 use mathlib.Core.Bool.{not}
 use lib.Dec.{eqb}
 use borrow.Author.Tests.{eq-eqb, ne-eqb}
-use Rattle.saved.proofs.head.kept_used.Statement.{statement}
-use Rattle.saved.proofs.head.kept_used.Tie as tie
+use Rattle.saved_head.proofs.head.kept_used.Statement.{statement}
+use Rattle.saved_head.proofs.head.kept_used.Tie as tie
 
 returns : tie.Need-returns
 returns c = rw (← c .before .u64-at .ensures, ne-eqb _ _ (c .if1 .taken))

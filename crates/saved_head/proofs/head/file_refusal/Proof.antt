@@ -1,5 +1,5 @@
-use Rattle.saved.proofs.head.file_refusal.Statement.{statement}
-use Rattle.saved.proofs.head.file_refusal.Tie as tie
+use Rattle.saved_head.proofs.head.file_refusal.Statement.{statement}
+use Rattle.saved_head.proofs.head.file_refusal.Tie as tie
 
 returns : tie.Need-returns
 returns c = rw (← c .before .file-refused .ensures, c .if1 .taken)
