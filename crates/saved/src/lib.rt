@@ -1,4 +1,4 @@
-// The words of saved keys and ciphertexts and their tags, read from lent bytes: docs/FILES.md has the layout. Past the end every byte is 0.
+// The words and tags of saved keys and ciphertexts, read from lent bytes: docs/FILES.md. Past the end every byte is 0.
 mod words;
 
 pub use words::signed_at;
