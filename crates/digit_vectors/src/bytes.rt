@@ -11,7 +11,7 @@ pub(crate) fn i32_bits_at(r: &[u8], i: usize) -> u64 {
 
 // A signed number by its 64 bits.
 pub(crate) fn bits(z: i64) -> u64 {
-    let n = readings_core::magnitude(z);
+    let n = readings_text::magnitude(z);
     if z < 0 {
         return std::num::wrapping_sub_u64(0, n);
     }

@@ -1,9 +1,9 @@
--- Scans over the places of a table, 19 before the order, and sizes before values.
+-- The places of a total that is judged, 19 before the order, and sizes before values.
 -- Assumes nothing.
 use mathlib.Core.Path.{_≡_, refl, sym, ap, ap₂, _∙_}
 use mathlib.Core.Bool.{Bool, true, false, not, _&&_}
 use mathlib.Core.List.{List, [], _∷_}
-use Prim.Native.Nat.{ℕ, zero, suc, _+_, _*_, _%_, _≤_, _<_}
+use Prim.Native.Nat.{ℕ, zero, suc, _*_, _%_, _≤_, _<_}
 use native.Mathlib.Omega.{arith}
 use lib.Dec.{eqb, ltb, leb}
 use lib.ListN.{length, getD}
@@ -12,25 +12,15 @@ use Rattle.scheme.specs.Numbers.{pick, tabulate}
 use Rattle.scheme.specs.Tally.{tallyFails}
 use Rattle.scheme.specs.Checks.{Check, sizes, applies, firstIn, refusal, allOf, wordsFail}
 use Rattle.scheme.proofs.Lists.{length-tabulate, getD-tabulate}
-use Rattle.checks.proofs.Laws.{anyFails, any-hit, any-more, any-all}
+use Rattle.checks.proofs.Laws.{anyFails}
 use Rattle.scheme.proofs.Order.{Sized}
 use Rattle.lwe_tag.specs.Answers.{cap, tallyOf}
-use Rattle.saved.specs.declared.head.Head.{Head}
+use Rattle.saved_head.specs.declared.head.Head.{Head}
 use Rattle.saved.specs.Layout.{savedTag}
 use Rattle.pooling.specs.declared.total.PoolParameters.{PoolParameters}
-use Rattle.pooling.specs.Total.{somewhere, placeFails, talliesFail, savedFail, sizeRows, beginRows, totalRows, fileRefusal}
-
--- ---- a scan of f 0, f 1, … of n terms
-
-module _ (p : ℕ → Bool) (n : ℕ) (f : ℕ → ℕ) (i : ℕ) where
-  pub scan-hit : i < n → p (f i) ≡ false → true ≡ anyFails p (tabulate n f) (i + 1)
-  scan-hit h k = any-hit p 0 (tabulate n f) i (omega (arith, length-tabulate n f)) (ap p (getD-tabulate n f i h) ∙ k)
-
-  pub scan-more : {b : Bool} → i < n → b ≡ anyFails p (tabulate n f) i → p (f i) ≡ true → b ≡ anyFails p (tabulate n f) (i + 1)
-  scan-more h e k = any-more p 0 (tabulate n f) i e (omega (arith, length-tabulate n f)) (ap p (getD-tabulate n f i h) ∙ k)
-
-  pub scan-end : {b : Bool} → n ≤ i → b ≡ anyFails p (tabulate n f) i → b ≡ not (allOf p (tabulate n f))
-  scan-end h e = any-all p 0 (tabulate n f) i e (omega (arith, length-tabulate n f))
+use Rattle.pooling_rows.specs.Rows.{somewhere, placeFails, talliesFail, savedFail}
+use Rattle.pooling_rows.proofs.Laws.{scan-end}
+use Rattle.pooling.specs.Total.{sizeRows, beginRows, totalRows, fileRefusal}
 
 pub words-end : (q n : ℕ) (f : ℕ → ℕ) (i : ℕ) {b : Bool} → n ≤ i → b ≡ anyFails (λ x. ltb x q) (tabulate n f) i → b ≡ wordsFail q (tabulate n f)
 unfolding wordsFail

@@ -18,7 +18,7 @@ use Rattle.lwe_tag.specs.declared.LweTag.{LweTag}
 use Rattle.lwe_tag.specs.Answers.{cap, noTally, tallyOf, tagOf}
 use Rattle.saved.specs.Layout.{savedTally, savedTag}
 use Rattle.saved.proofs.Tags.{saved-fails, saved-is}
-use Rattle.pooling.specs.Total.{tagFor, placeTag, placeSum, talliesFail, savedFail, addTallies, savedTallies}
+use Rattle.pooling_rows.specs.Rows.{tagFor, placeTag, placeSum, talliesFail, savedFail, addTallies, savedTallies}
 use Rattle.pooling.proofs.Laws.{place-ok, saved-ok}
 
 -- a tally that is not refused is far below the number that stands for none

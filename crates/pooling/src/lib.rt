@@ -1,6 +1,5 @@
 // Saved runs of ciphertexts, added to a total place by place, or refused whole. The first of them is the total.
 mod rows;
-mod tallies;
 mod total;
 
 pub use total::PoolParameters;

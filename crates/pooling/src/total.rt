@@ -4,16 +4,16 @@ ghost use mathlib.Core.Bool.{_||_};
 ghost use Prim.Native.Nat.{_+_, _*_};
 ghost use Rattle.scheme.specs.Checks.{sizes, applies, firstIn, refusal, lengthFails, wordsFail};
 ghost use Rattle.primus_reduce.specs.Ring.{sizeOf};
-ghost use Rattle.saved.specs.Layout.{fileFails, fileWords};
+ghost use Rattle.saved_head.specs.Head.{fileFails};
+ghost use Rattle.saved.specs.Layout.{fileWords};
 ghost use Rattle.pooling.specs.Total.{otherFails, sizeRows, beginRows, totalRows, beginRefusal, totalRefusal};
 ghost use Rattle.pooling.specs.Total.{BeginsSaved, AddsSaved};
 use crate::rows;
-use crate::tallies;
 use checks::Sizes;
 use checks::Values;
 use primus_lattice::LweDimension;
 use primus_reduce::Modulus;
-use saved::Head;
+use saved_head::Head;
 
 // What every file of a total is made with: q, n and t.
 pub struct PoolParameters {
@@ -42,7 +42,7 @@ fn foreign(params: PoolParameters, h: Head, bytes: &[u8]) -> bool
         || otherFails h (params .modulus) (params .«plaintext_modulus»)) ⌝ }
 {
     let modulus = params.modulus;
-    saved::file_refused(bytes) | is_other(h, modulus, params.plaintext_modulus)
+    saved_head::file_refused(bytes) | is_other(h, modulus, params.plaintext_modulus)
 }
 
 // 10: another n, words that are not `count` ciphertexts, or not as many as the total's.
@@ -107,7 +107,7 @@ fn begin_judged(params: PoolParameters, h: Head, bytes: &[u8], len: usize, place
     let modulus = params.modulus;
     let mut v = Values::NONE;
     v.word = file_words_refused(modulus, bytes, h.words as usize);
-    v.tally = tallies::saved_refused(places, bytes);
+    v.tally = pooling_rows::saved_refused(places, bytes);
     v.first()
 }
 
@@ -122,7 +122,7 @@ fn judged(params: PoolParameters, h: Head, bytes: &[u8], total: &[u32], tallies:
     let modulus = params.modulus;
     let mut v = Values::NONE;
     v.word = words_refused(modulus, total, bytes, h);
-    v.tally = tallies::tallies_refused(tallies, bytes);
+    v.tally = pooling_rows::tallies_refused(tallies, bytes);
     v.first()
 }
 
@@ -131,7 +131,7 @@ fn judged(params: PoolParameters, h: Head, bytes: &[u8], total: &[u32], tallies:
 fn begin_refusal(params: PoolParameters, bytes: &[u8], len: usize, places: usize) -> u32
     ensures { λ r. ⌜ r ≡ beginRefusal params (now (bytes .entry)) len places ⌝ }
 {
-    let h = saved::head_of(bytes);
+    let h = saved_head::head_of(bytes);
     if foreign(params, h, bytes) {
         return 19;
     }
@@ -141,7 +141,7 @@ fn begin_refusal(params: PoolParameters, bytes: &[u8], len: usize, places: usize
 fn total_refusal(params: PoolParameters, bytes: &[u8], total: &[u32], tallies: &[u64]) -> u32
     ensures { λ r. ⌜ r ≡ totalRefusal params (now (bytes .entry)) (now (total .entry)) (now (tallies .entry)) ⌝ }
 {
-    let h = saved::head_of(bytes);
+    let h = saved_head::head_of(bytes);
     if foreign(params, h, bytes) {
         return 19;
     }
@@ -164,7 +164,7 @@ pub fn begin_saved(
         return refusal;
     }
     saved::words_to(bytes, total);
-    tallies::write_tallies(tallies, bytes);
+    pooling_rows::write_tallies(tallies, bytes);
     0
 }
 

@@ -6,7 +6,7 @@ use primus_lattice::LweDimensionAnswer;
 use primus_lwe::LweDecryptionParameters;
 use primus_lwe_batch::decrypt_message_batch_to;
 use primus_reduce::Modulus;
-use saved::Head;
+use saved_head::Head;
 
 fn print_total(place: u64, count: u32) {
     programs::print(b"  casting ", place);

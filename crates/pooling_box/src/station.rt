@@ -15,9 +15,9 @@ use primus_lattice::LweTag;
 use primus_lattice::MarkAnswer;
 use primus_lattice::Tally;
 use primus_reduce::Modulus;
-use saved::Head;
 use saved_files::ROOM;
 use saved_files::Stored;
+use saved_head::Head;
 
 fn digit(number: u32) -> u8 {
     (48 + number % 10) as u8

@@ -14,7 +14,7 @@ use lib.Seq.{take-all, take-suc-set}
 use borrow.Author.Tests.{le-leb, lt-leb, lt-ltb, eq-eqb, ne-eqb}
 use Rattle.scheme.specs.Numbers.{pick}
 use Rattle.readings_core.specs.Program.{operands, over, turnOf}
-use Rattle.readings_core.specs.Run.{Line, due, linesWithin, linesOf, silent, start, put, oneMore, settledBy, fed, fedAll, finished, linesFed, Ran}
+use Rattle.readings_core.specs.Run.{Line, due, linesWithin, linesOf, silent, start, put, oneMore, settledBy, fed, finished, linesFed}
 use Rattle.readings_core.specs.declared.command.Session.{Session}
 use Rattle.readings_core.specs.declared.command.Session.the-variants.{Empty}
 use Rattle.readings_core.specs.declared.command.Turn.{Turn}
@@ -211,12 +211,3 @@ all (suc n) s m w xs l = next n (all n) s m w xs l
 -- fed byte by byte, from the first byte to the end of the input, the reader says the lines of the input's commands
 pub whole-run : (xs : List ℕ) → linesFed start xs ≡ linesOf xs
 whole-run xs = all (length xs) Empty start (record { in-session = refl; goes-on = refl; none-begun = refl; room = refl }) xs (omega arith)
-
--- a run has ended, whatever the bytes were
-pub run-ends : {t : Turn} → Ran t → t .more ≡ false
-unfolding finished
-run-ends {t} r = ap (λ t. t .more) (r .last) ∙ go (fedAll start (r .bytes) .begun)
-  where
-    go : (b : Bool) → pick b (over (fedAll start (r .bytes) .turn .session)) (silent (fedAll start (r .bytes) .turn .session) false) .more ≡ false
-    go true = refl
-    go false = refl

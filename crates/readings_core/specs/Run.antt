@@ -1,5 +1,4 @@
 -- A whole run of the program: its commands one after the other, and the same byte by byte.
-use mathlib.Core.Path.{_≡_}
 use mathlib.Core.Bool.{Bool, true, false}
 use mathlib.Core.List.{List, [], _∷_, _++_}
 use Prim.Native.Nat.{ℕ, zero, suc, _+_}
@@ -78,10 +77,6 @@ fed m x =
     (settledBy (m .turn .session) x (m .held) 0))
     (record { turn = silent (m .turn .session) false; begun = false; command = 0; held = m .held; count = 0 })
 
-unfoldable pub fedAll : Reader → List ℕ → Reader
-fedAll m [] = m
-fedAll m (x ∷ xs) = fedAll (fed m x) xs
-
 -- the end of the input
 unfoldable pub finished : Reader → Turn
 finished m = pick (m .begun) (over (m .turn .session)) (silent (m .turn .session) false)
@@ -90,15 +85,3 @@ finished m = pick (m .begun) (over (m .turn .session)) (silent (m .turn .session
 unfoldable pub linesFed : Reader → List ℕ → List Line
 linesFed m [] = due (finished m)
 linesFed m (x ∷ xs) = due (fed m x .turn) ++ linesFed (fed m x) xs
-
--- ---- what a run promises: no contract can say which bytes a read gives, nor that there were no more
-
--- m is what some bytes make of the reader before
-pub record Read (before m : Reader) : Type 0 where
-  pub bytes : List ℕ
-  pub fed-so : m ≡ fedAll before bytes
-
--- t is the last answer of a run over some bytes
-pub record Ran (t : Turn) : Type 0 where
-  pub bytes : List ℕ
-  pub last : t ≡ finished (fedAll start bytes)

@@ -1,7 +1,6 @@
 // The program of document 01: commands of one byte, operands little-endian, one line of answer each.
 mod command;
 mod digits;
-mod print;
 mod reader;
 
 pub use command::BasisReply;
@@ -11,6 +10,4 @@ pub use command::Turn;
 pub use command::WordReply;
 pub use command::answer;
 pub use command::operand_count;
-pub use print::magnitude;
-pub use print::run;
 pub use reader::Reader;

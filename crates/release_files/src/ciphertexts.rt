@@ -8,8 +8,8 @@ use primus_lwe::LweDecryptionParameters;
 use primus_lwe::decrypt_message_signed;
 use primus_lwe_batch::decrypt_message_batch_to;
 use primus_lwe_packed::decrypt_message_packed;
-use saved::Head;
 use saved_files::Loaded;
+use saved_head::Head;
 
 fn parameters(h: Head, dimension: LweDimension) -> LweDecryptionParameters {
     let modulus = h.modulus;

@@ -8,7 +8,7 @@ use primus_lattice::LweDimension;
 use primus_lattice::LweDimensionAnswer;
 use primus_lwe::LwePhaseParameters;
 use primus_lwe_batch::decrypt_phase_batch_to;
-use saved::Head;
+use saved_head::Head;
 
 fn secret_refusal(h: Head, kind: u32) -> u32 {
     if h.kind != kind {

@@ -11,7 +11,8 @@ use Rattle.scheme.specs.Numbers.{pick}
 use Rattle.scheme.specs.Tally.{Tally, Absent, Present, tallyFails}
 use Rattle.little_endian.specs.Bytes.{word64}
 use Rattle.lwe_tag.specs.Answers.{cap, noTally, meantTally, tallyFor, tallyOf}
-use Rattle.saved.specs.Layout.{besideOf, wordsOf, heldNumber, savedTally, savedTag}
+use Rattle.saved_head.specs.Head.{besideOf, wordsOf}
+use Rattle.saved.specs.Layout.{heldNumber, savedTally, savedTag}
 
 -- one number, by whether it is the one that a tag keeps for none
 number-fails : (a : ℕ) (b : Bool) → eqb a noTally ≡ b → tallyFails cap (meantTally (tallyFor (pick b (noTally - 1) a))) ≡ ltb cap a

@@ -5,7 +5,6 @@ ghost use lib.IntN.{pos, _-ℤ_};
 ghost use lib.ListN.{length};
 ghost use Rattle.little_endian.specs.Bytes.{word64};
 ghost use Rattle.saved.specs.Layout.{fileWord, fileWords, signedWord, heldNumber, savedTag};
-use crate::head;
 use lwe_tag::LweTag;
 
 // Word i. The place is compared with the end first: a sum could overflow.
@@ -78,7 +77,7 @@ fn held(number: u64) -> u64
 pub fn tag_at(bytes: &[u8], i: usize) -> LweTag
     ensures { λ r. ⌜ r ≡ savedTag (now (bytes .entry)) i ⌝ }
 {
-    let h = head::head_of(bytes);
+    let h = saved_head::head_of(bytes);
     if h.beside != 1 {
         return LweTag::none();
     }

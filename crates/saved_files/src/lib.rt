@@ -1,9 +1,9 @@
 // Saved files, read whole into rooms that the caller lends.
 use lwe_tag::LweTag;
-use saved::Head;
+use saved_head::Head;
 
 // The programs take files of at most 65,536 bytes. A room has one byte more: no whole file has that length, so a
-// longer one is refused too (odd-length of saved).
+// longer one is refused too (odd-length of saved_head).
 pub const ROOM: usize = 65537;
 
 // What stands under a name: nothing that can be opened, bytes that are no whole file, or a whole one.
@@ -40,7 +40,7 @@ pub fn stored_as(opened: bool, bytes: &[u8]) -> Stored {
     if !opened {
         return Stored::Missing;
     }
-    if saved::file_refused(bytes) {
+    if saved_head::file_refused(bytes) {
         return Stored::Broken;
     }
     Stored::Whole
@@ -48,10 +48,10 @@ pub fn stored_as(opened: bool, bytes: &[u8]) -> Stored {
 
 fn judged(opened: bool, bytes: &[u8]) -> Loaded {
     let stored = stored_as(opened, bytes);
-    let head = saved::head_of(bytes);
+    let head = saved_head::head_of(bytes);
     let tag = saved::tag_at(bytes, 0);
     Loaded {
-        refusal: saved::file_refusal(bytes),
+        refusal: saved_head::file_refusal(bytes),
         stored,
         head,
         tag,

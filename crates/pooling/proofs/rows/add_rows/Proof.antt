@@ -4,7 +4,7 @@ use lib.ListN.{length}
 use Rattle.scheme.proofs.InPlace.{Filled, filled-end}
 use Rattle.scheme.proofs.Rows.{Filling}
 use Rattle.primus_reduce.specs.Ring.{sizeOf}
-use Rattle.pooling.specs.Total.{addTallies}
+use Rattle.pooling_rows.specs.Rows.{addTallies}
 use Rattle.pooling.proofs.Places.{sumAt, most, turns-start, turn-ready, turn-next, turns-end}
 use Rattle.pooling.proofs.rows.add_rows.Statement.{statement}
 use Rattle.pooling.proofs.rows.add_rows.Tie as tie

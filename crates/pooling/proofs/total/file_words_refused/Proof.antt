@@ -6,7 +6,8 @@ use lib.Dec.{ltb}
 use Rattle.checks.proofs.Laws.{anyFails, any-none}
 use Rattle.primus_reduce.specs.Ring.{sizeOf}
 use Rattle.saved.specs.Layout.{fileWord, fileWords}
-use Rattle.pooling.proofs.Laws.{scan-hit, scan-more, words-end, word-hit, word-passes}
+use Rattle.pooling_rows.proofs.Laws.{scan-hit, scan-more}
+use Rattle.pooling.proofs.Laws.{words-end, word-hit, word-passes}
 use Rattle.pooling.proofs.total.file_words_refused.Statement.{statement}
 use Rattle.pooling.proofs.total.file_words_refused.Tie as tie
 

@@ -3,7 +3,8 @@ use Prim.Native.Nat.{ℕ}
 use borrow.Author.Needs.{needs}
 use borrow.Author.Tests.{eq-eqb, ne-eqb}
 use Rattle.lwe_tag.specs.declared.LweTag.{LweTag}
-use Rattle.saved.specs.Layout.{headOf, heldNumber}
+use Rattle.saved_head.specs.Head.{headOf}
+use Rattle.saved.specs.Layout.{heldNumber}
 use Rattle.saved.proofs.words.tag_at.Statement.{statement}
 use Rattle.saved.proofs.words.tag_at.Tie as tie
 
