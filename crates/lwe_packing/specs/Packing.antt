@@ -6,8 +6,8 @@ use lib.IntN.{ℤ, pos}
 use lib.ListN.{getD}
 use Rattle.primus_reduce.specs.declared.modulus.Modulus.{Modulus}
 use Rattle.primus_encoding.specs.Answers.{encodeAnswer, orZero}
-use Rattle.primus_lwe_packed.specs.declared.packed.Packing.{Packing}
-use Rattle.primus_lwe_packed.specs.declared.packed.Packing.the-variants.{Plaintexts, Messages}
+use Rattle.lwe_packing.specs.declared.packed.Packing.{Packing}
+use Rattle.lwe_packing.specs.declared.packed.Packing.the-variants.{Plaintexts, Messages}
 
 -- the plaintext of a lent word x: x itself, or its encoding
 abbrev pub plaintextOf : Packing → Modulus → ℕ → ℕ

@@ -1,7 +1,7 @@
 use mathlib.Core.Path.{refl}
 use borrow.Author.Needs.{needs}
-use Rattle.primus_lwe_packed.proofs.packed.plaintext.Statement.{statement}
-use Rattle.primus_lwe_packed.proofs.packed.plaintext.Tie as tie
+use Rattle.lwe_packing.proofs.packed.plaintext.Statement.{statement}
+use Rattle.lwe_packing.proofs.packed.plaintext.Tie as tie
 
 returns : tie.Need-returns
 returns c = rw (c .enum-told .given .1) refl

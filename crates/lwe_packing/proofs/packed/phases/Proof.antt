@@ -5,8 +5,8 @@ use Rattle.scheme.specs.Numbers.{tabulate}
 use Rattle.scheme.specs.Lwe.{words, packedPhase}
 use Rattle.scheme.proofs.InPlace.{Filled, filled-end, tabled-start, tabled-next}
 use Rattle.primus_reduce.specs.Ring.{sizeOf}
-use Rattle.primus_lwe_packed.proofs.packed.phases.Statement.{statement}
-use Rattle.primus_lwe_packed.proofs.packed.phases.Tie as tie
+use Rattle.lwe_packing.proofs.packed.phases.Statement.{statement}
+use Rattle.lwe_packing.proofs.packed.phases.Tie as tie
 
 abbrev Inv-loop : tie.InvT-loop
 Inv-loop out₀ input secret dimension modulus i₀ out i =

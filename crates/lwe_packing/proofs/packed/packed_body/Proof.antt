@@ -3,9 +3,9 @@ use native.Mathlib.Omega.{arith}
 use lib.ListN.{length}
 use Rattle.scheme.specs.Lwe.{words, signed}
 use Rattle.primus_reduce.specs.Ring.{sizeOf}
-use Rattle.primus_lwe_packed.proofs.Laws.{packed-body-is}
-use Rattle.primus_lwe_packed.proofs.packed.packed_body.Statement.{statement}
-use Rattle.primus_lwe_packed.proofs.packed.packed_body.Tie as tie
+use Rattle.lwe_packing.proofs.Laws.{packed-body-is}
+use Rattle.lwe_packing.proofs.packed.packed_body.Statement.{statement}
+use Rattle.lwe_packing.proofs.packed.packed_body.Tie as tie
 
 rotated-mask-product-requires : tie.Need-rotated-mask-product-requires
 rotated-mask-product-requires c κs = let s = c .before .before in (s .pre .2, omega arith, s .pre .1, s .pre .0)

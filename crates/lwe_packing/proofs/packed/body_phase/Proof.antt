@@ -1,9 +1,9 @@
 use native.Mathlib.Omega.{arith}
 use Rattle.scheme.specs.Lwe.{words}
 use Rattle.primus_reduce.specs.Ring.{sizeOf}
-use Rattle.primus_lwe_packed.proofs.Laws.{packed-is}
-use Rattle.primus_lwe_packed.proofs.packed.body_phase.Statement.{statement}
-use Rattle.primus_lwe_packed.proofs.packed.body_phase.Tie as tie
+use Rattle.lwe_packing.proofs.Laws.{packed-is}
+use Rattle.lwe_packing.proofs.packed.body_phase.Statement.{statement}
+use Rattle.lwe_packing.proofs.packed.body_phase.Tie as tie
 
 rotated-mask-product-requires : tie.Need-rotated-mask-product-requires
 rotated-mask-product-requires c κs = let s = c .before .before in (s .pre .2, omega arith, s .pre .1, s .pre .0)

@@ -6,9 +6,9 @@ use lib.ListN.{length}
 use lib.Seq.{length-take-le}
 use Rattle.scheme.specs.Lwe.{words}
 use Rattle.primus_reduce.specs.Ring.{sizeOf}
-use Rattle.primus_lwe_packed.proofs.Laws.{dot-prefix, dot-suffix, rotated-is}
-use Rattle.primus_lwe_packed.proofs.packed.rotated_mask_product.Statement.{statement}
-use Rattle.primus_lwe_packed.proofs.packed.rotated_mask_product.Tie as tie
+use Rattle.lwe_packing.proofs.Laws.{dot-prefix, dot-suffix, rotated-is}
+use Rattle.lwe_packing.proofs.packed.rotated_mask_product.Statement.{statement}
+use Rattle.lwe_packing.proofs.packed.rotated_mask_product.Tie as tie
 
 slice-aggregate-reduce-dot-product : tie.Need-slice-aggregate-reduce-dot-product
 slice-aggregate-reduce-dot-product c = sym (length-take-le _ _ (omega arith))

@@ -7,10 +7,10 @@ use lib.ListN.{length}
 use Rattle.scheme.specs.Numbers.{residue}
 use Rattle.scheme.specs.Lwe.{words, signed, rotated}
 use Rattle.primus_reduce.specs.Ring.{sizeOf}
-use Rattle.primus_lwe_packed.specs.Packing.{plaintexts}
-use Rattle.primus_lwe_packed.proofs.Laws.{packed-mask, packed-body}
-use Rattle.primus_lwe_packed.proofs.packed.packed_word.Statement.{statement}
-use Rattle.primus_lwe_packed.proofs.packed.packed_word.Tie as tie
+use Rattle.lwe_packing.specs.Packing.{plaintexts}
+use Rattle.lwe_packing.proofs.Laws.{packed-mask, packed-body}
+use Rattle.lwe_packing.proofs.packed.packed_word.Statement.{statement}
+use Rattle.lwe_packing.proofs.packed.packed_word.Tie as tie
 
 returns : tie.Need-returns
 returns c =

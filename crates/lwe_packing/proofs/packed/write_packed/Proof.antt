@@ -5,10 +5,10 @@ use lib.ListN.{length}
 use Rattle.scheme.specs.Lwe.{words, signed, packed}
 use Rattle.scheme.proofs.InPlace.{Filled, filled-start, filled-next, filled-end}
 use Rattle.primus_reduce.specs.Ring.{sizeOf}
-use Rattle.primus_lwe_packed.specs.Packing.{plaintexts}
-use Rattle.primus_lwe_packed.proofs.Laws.{packed-length}
-use Rattle.primus_lwe_packed.proofs.packed.write_packed.Statement.{statement}
-use Rattle.primus_lwe_packed.proofs.packed.write_packed.Tie as tie
+use Rattle.lwe_packing.specs.Packing.{plaintexts}
+use Rattle.lwe_packing.proofs.Laws.{packed-length}
+use Rattle.lwe_packing.proofs.packed.write_packed.Statement.{statement}
+use Rattle.lwe_packing.proofs.packed.write_packed.Tie as tie
 
 abbrev Inv-loop : tie.InvT-loop
 Inv-loop out₀ packing mask secret errors lent modulus k₀ out k =
