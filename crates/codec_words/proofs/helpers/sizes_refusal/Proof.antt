@@ -1,7 +1,7 @@
 use borrow.Author.Needs.{needs}
-use Rattle.primus_encoding.specs.Coding.{sizeRows}
-use Rattle.primus_encoding.proofs.helpers.sizes_refusal.Statement.{statement}
-use Rattle.primus_encoding.proofs.helpers.sizes_refusal.Tie as tie
+use Rattle.codec_words.specs.Words.{sizeRows}
+use Rattle.codec_words.proofs.helpers.sizes_refusal.Statement.{statement}
+use Rattle.codec_words.proofs.helpers.sizes_refusal.Tie as tie
 
 returns : tie.Need-returns
 returns c =

@@ -1,7 +1,7 @@
 use borrow.Author.Needs.{needs}
-use Rattle.primus_encoding.proofs.Laws.{centered-fits, centered-from, centered-until}
-use Rattle.primus_encoding.proofs.helpers.encode_centered.Statement.{statement}
-use Rattle.primus_encoding.proofs.helpers.encode_centered.Tie as tie
+use Rattle.codec_words.proofs.Laws.{centered-fits, centered-from, centered-until}
+use Rattle.codec_words.proofs.helpers.encode_centered.Statement.{statement}
+use Rattle.codec_words.proofs.helpers.encode_centered.Tie as tie
 
 sub-result : tie.Need-sub-result
 sub-result c =

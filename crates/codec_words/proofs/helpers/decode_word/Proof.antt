@@ -1,9 +1,9 @@
 use mathlib.Core.Path.{ap}
 use Prim.Native.Nat.{_%_}
 use borrow.Author.Needs.{needs}
-use Rattle.primus_encoding.proofs.Laws.{message-fits}
-use Rattle.primus_encoding.proofs.helpers.decode_word.Statement.{statement}
-use Rattle.primus_encoding.proofs.helpers.decode_word.Tie as tie
+use Rattle.codec_words.proofs.Laws.{message-fits}
+use Rattle.codec_words.proofs.helpers.decode_word.Statement.{statement}
+use Rattle.codec_words.proofs.helpers.decode_word.Tie as tie
 
 cast-result : tie.Need-cast-result
 cast-result c = record { fits = message-fits (c .before .args .t) (c .before .args .q) (c .switch-value .result) (c .before .pre) }
