@@ -9,10 +9,10 @@ use mir.Val.{SFits}
 use mir.Facts.{toZ-ofZ}
 use borrow.Author.Needs.{needs}
 use Rattle.primus_reduce.specs.Ring.{sizeOf}
-use Rattle.primus_lwe_public_key.specs.Public.{plusTimes}
-use Rattle.primus_lwe_public_key.proofs.Laws.{no-row, coefficient-one, coefficient-minus, coefficient-none}
-use Rattle.primus_lwe_public_key.proofs.rows.add_multiple.Statement.{statement}
-use Rattle.primus_lwe_public_key.proofs.rows.add_multiple.Tie as tie
+use Rattle.lwe_public_rows.specs.Public.{plusTimes}
+use Rattle.lwe_public_rows.proofs.Laws.{no-row, coefficient-one, coefficient-minus, coefficient-none}
+use Rattle.lwe_public_rows.proofs.rows.add_multiple.Statement.{statement}
+use Rattle.lwe_public_rows.proofs.rows.add_multiple.Tie as tie
 
 abbrev start : tie.After-r → tie.Start
 start c = c .before .before .before

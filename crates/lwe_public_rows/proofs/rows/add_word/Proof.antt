@@ -1,7 +1,7 @@
 use Rattle.primus_reduce.specs.Ring.{sizeOf}
-use Rattle.primus_lwe_public_key.proofs.Laws.{less-word, more-word}
-use Rattle.primus_lwe_public_key.proofs.rows.add_word.Statement.{statement}
-use Rattle.primus_lwe_public_key.proofs.rows.add_word.Tie as tie
+use Rattle.lwe_public_rows.proofs.Laws.{less-word, more-word}
+use Rattle.lwe_public_rows.proofs.rows.add_word.Statement.{statement}
+use Rattle.lwe_public_rows.proofs.rows.add_word.Tie as tie
 
 returns : tie.Need-returns
 returns c =

@@ -9,14 +9,14 @@ ghost use Rattle.scheme.specs.Lwe.{signed as errorsOf, secretOf, publicKey, pub
 ghost use Rattle.scheme.specs.Switch.{Below};
 ghost use Rattle.primus_reduce.specs.Ring.{sizeOf};
 ghost use Rattle.lwe_secret_key.specs.Key.{keyOf};
-ghost use Rattle.primus_lwe_public_key.specs.Public.{sign, plusTimes, startWord, Public};
+ghost use Rattle.lwe_public_rows.specs.Public.{sign, plusTimes, startWord, Public};
 use lwe_secret_key::KeyForm;
 use lwe_secret_key::encrypt_to;
 use lwe_secret_key::error_residue;
 use primus_reduce::Modulus;
 
 // n encryptions of 0, row i with mask i and error i.
-pub(crate) fn write_zeros(
+pub fn write_zeros(
     out: &mut [u32],
     form: KeyForm,
     words: &[u32],
@@ -107,7 +107,7 @@ fn add_multiple(out: &mut [u32], row: &[u32], coefficients: &[i32], i: usize, mo
 }
 
 // The errors, p in the body, and each row by its coefficient.
-pub(crate) fn write_public(
+pub fn write_public(
     out: &mut [u32],
     key: &[u32],
     errors: &[i32],

@@ -5,9 +5,9 @@ use Rattle.scheme.specs.Numbers.{tabulate}
 use Rattle.scheme.specs.Lwe.{signed}
 use Rattle.scheme.proofs.InPlace.{Filled, tabled-start, tabled-next, filled-end}
 use Rattle.primus_reduce.specs.Ring.{sizeOf}
-use Rattle.primus_lwe_public_key.specs.Public.{startWord}
-use Rattle.primus_lwe_public_key.proofs.rows.start.Statement.{statement}
-use Rattle.primus_lwe_public_key.proofs.rows.start.Tie as tie
+use Rattle.lwe_public_rows.specs.Public.{startWord}
+use Rattle.lwe_public_rows.proofs.rows.start.Statement.{statement}
+use Rattle.lwe_public_rows.proofs.rows.start.Tie as tie
 
 abbrev Inv-loop : tie.InvT-loop
 Inv-loop out₀ errors plaintext n modulus k₀ out k = Filled (tabulate (length out₀) (startWord (sizeOf modulus) n (signed errors) plaintext)) out₀ out k

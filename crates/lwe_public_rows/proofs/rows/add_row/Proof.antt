@@ -4,9 +4,9 @@ use native.Mathlib.Omega.{arith}
 use lib.ListN.{length}
 use Rattle.scheme.proofs.InPlace.{Filled, filled-start, zipped-next, filled-end, length-zip}
 use Rattle.primus_reduce.specs.Ring.{sizeOf}
-use Rattle.primus_lwe_public_key.specs.Public.{sign, plusTimes}
-use Rattle.primus_lwe_public_key.proofs.rows.add_row.Statement.{statement}
-use Rattle.primus_lwe_public_key.proofs.rows.add_row.Tie as tie
+use Rattle.lwe_public_rows.specs.Public.{sign, plusTimes}
+use Rattle.lwe_public_rows.proofs.rows.add_row.Statement.{statement}
+use Rattle.lwe_public_rows.proofs.rows.add_row.Tie as tie
 
 abbrev Inv-loop : tie.InvT-loop
 Inv-loop out₀ row negative modulus k₀ out k = Filled (zipWith (plusTimes (sizeOf modulus) (sign negative)) out₀ row) out₀ out k

@@ -1,9 +1,9 @@
 use borrow.Author.Needs.{needs}
 use Rattle.scheme.specs.Lwe.{signed}
 use Rattle.primus_reduce.specs.Ring.{sizeOf}
-use Rattle.primus_lwe_public_key.proofs.Laws.{start-body, start-mask}
-use Rattle.primus_lwe_public_key.proofs.rows.start_word.Statement.{statement}
-use Rattle.primus_lwe_public_key.proofs.rows.start_word.Tie as tie
+use Rattle.lwe_public_rows.proofs.Laws.{start-body, start-mask}
+use Rattle.lwe_public_rows.proofs.rows.start_word.Statement.{statement}
+use Rattle.lwe_public_rows.proofs.rows.start_word.Tie as tie
 
 returns : tie.Need-returns
 returns c =

@@ -6,9 +6,9 @@ use lib.ListN.{length}
 use Rattle.scheme.specs.Lwe.{signed}
 use Rattle.scheme.proofs.Public.{Upto, upto-end}
 use Rattle.primus_reduce.specs.Ring.{sizeOf}
-use Rattle.primus_lwe_public_key.proofs.Laws.{public-start, public-part, public-same, public-below, public-next}
-use Rattle.primus_lwe_public_key.proofs.rows.write_public.Statement.{statement}
-use Rattle.primus_lwe_public_key.proofs.rows.write_public.Tie as tie
+use Rattle.lwe_public_rows.proofs.Laws.{public-start, public-part, public-same, public-below, public-next}
+use Rattle.lwe_public_rows.proofs.rows.write_public.Statement.{statement}
+use Rattle.lwe_public_rows.proofs.rows.write_public.Tie as tie
 
 abbrev Inv-loop : tie.InvT-loop
 Inv-loop out₀ key errors coefficients plaintext modulus n i₀ out i =

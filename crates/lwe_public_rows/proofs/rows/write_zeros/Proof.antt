@@ -6,9 +6,9 @@ use Rattle.scheme.specs.Lwe.{signed, secretOf}
 use Rattle.scheme.proofs.Rows.{Filling, filling-room}
 use Rattle.primus_reduce.specs.Ring.{sizeOf}
 use Rattle.lwe_secret_key.specs.Key.{keyOf}
-use Rattle.primus_lwe_public_key.proofs.Laws.{zeroRow, zeros-start, zeros-mask, zeros-sizes, zeros-next, zeros-end}
-use Rattle.primus_lwe_public_key.proofs.rows.write_zeros.Statement.{statement}
-use Rattle.primus_lwe_public_key.proofs.rows.write_zeros.Tie as tie
+use Rattle.lwe_public_rows.proofs.Laws.{zeroRow, zeros-start, zeros-mask, zeros-sizes, zeros-next, zeros-end}
+use Rattle.lwe_public_rows.proofs.rows.write_zeros.Statement.{statement}
+use Rattle.lwe_public_rows.proofs.rows.write_zeros.Tie as tie
 
 abbrev Inv-loop : tie.InvT-loop
 Inv-loop out₀ form ws cs masks n errors modulus i₀ out i = Filling (zeroRow (sizeOf modulus) n masks (secretOf (keyOf form ws cs)) (signed errors)) (n + 1) n out₀ out i
