@@ -1,7 +1,7 @@
 -- The one body of the calls: what is done with a word is a value k, and what is judged and written follows from it.
 use mathlib.Core.Bool.{Bool, false}
-use mathlib.Core.List.{List, [], _∷_, _++_}
-use Prim.Native.Nat.{ℕ, _^_, _<_, _≤_}
+use mathlib.Core.List.{List, [], _∷_}
+use Prim.Native.Nat.{ℕ}
 use lib.ListN.{length}
 use Rattle.scheme.specs.Codec.{decode}
 use Rattle.scheme.specs.Checks.{Check, row, Writes, wordsFail, messageFails, messagesFail}
@@ -11,21 +11,11 @@ use Rattle.checks.specs.Answers.{wordAnswer}
 use Rattle.checks.specs.declared.WordAnswer.{WordAnswer}
 use Rattle.primus_encoding.specs.declared.coding.Coding.{Coding}
 use Rattle.primus_encoding.specs.declared.coding.Coding.the-variants.{Encode, Decode, AddEncoding}
-use Rattle.primus_encoding.specs.Answers.{rows, encodeWord, addWord, encodeRows, decodeRows, addRows}
+use Rattle.primus_encoding.specs.Answers.{encodeWord, addWord, encodeRows, decodeRows, addRows}
 use Rattle.primus_encoding.specs.Answers.{encodeSliceRows, decodeSliceRows, addSliceRows}
 use Rattle.primus_encoding.specs.Answers.{encoded, decoded, added}
 
--- checks 7 and 8 have passed, and q is at most 2^32
-pub record Moduli (t q : ℕ) : Type 0 where
-  pub least : 2 ≤ t
-  pub below : t < q
-  pub most : q ≤ 2 ^ 32
-
--- the sizes of every call; 11 applies where b holds
-abbrev pub sizeRows : ℕ → Modulus → Bool → List Check
-sizeRows t m b = rows t m ++ row b 11 ∷ []
-
--- and what it reads; 14 applies where w holds, 16 where b does
+-- what every call reads; 14 applies where w holds, 16 where b does
 abbrev pub valueRows : Bool → Bool → List Check
 valueRows w b = row w 14 ∷ row b 16 ∷ []
 

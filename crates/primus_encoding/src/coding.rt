@@ -29,7 +29,7 @@ fn code_word(coding: Coding, t: u32, modulus: Modulus, x: u32, held: u32) -> u32
     let q = modulus.size();
     match coding {
         Coding::Encode(embedding) => helpers::encode_word(embedding, t, q, x),
-        Coding::Decode => helpers::decode_word(t, q, x),
+        Coding::Decode => codec_words::decode_word(t, q, x),
         Coding::AddEncoding(embedding) => {
             modulus.reduce_add(held, helpers::encode_word(embedding, t, q, x))
         }
@@ -61,7 +61,7 @@ fn messages_refused(coding: Coding, t: u32, input: &[u32]) -> bool
 fn slice_refusal(coding: Coding, t: u32, modulus: Modulus, input: &[u32], held: &[u32]) -> u32
     ensures { λ r. ⌜ r ≡ refusal (sliceRows coding t modulus (now (input .entry)) (now (held .entry))) ⌝ }
 {
-    let r = helpers::sizes_refusal(t, modulus, checks::length_differs(held.len(), input.len()));
+    let r = codec_words::sizes_refusal(t, modulus, checks::length_differs(held.len(), input.len()));
     if r != 0 {
         return r;
     }

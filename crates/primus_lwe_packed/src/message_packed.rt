@@ -4,8 +4,8 @@ ghost use Rattle.scheme.specs.Checks.{refusal};
 ghost use Rattle.primus_lwe_packed.specs.Answers.{packedMessageRows, EncryptsPackedMessages};
 ghost use Rattle.primus_lwe_packed.specs.Answers.{packedDecryptRows, DecryptsPacked};
 use crate::packed;
-use crate::packed::Packing;
 use checks::Values;
+use lwe_packing::Packing;
 use lwe_tag::LweAnswer;
 use lwe_tag::LweTag;
 use primus_encoding::PlaintextEmbedding;
@@ -62,7 +62,7 @@ pub fn encrypt_message_packed(
     }
     let modulus = params.modulus;
     let packing = Packing::Messages(params.plaintext_modulus, embedding);
-    packed::write_packed(out, packing, mask, secret, errors, messages, modulus);
+    lwe_packing::write_packed(out, packing, mask, secret, errors, messages, modulus);
     LweAnswer::Written(LweTag::none())
 }
 
@@ -105,7 +105,7 @@ pub fn decrypt_message_packed(
     }
     let n = params.dimension.get();
     let modulus = params.modulus;
-    packed::phases(out, input, secret, n, modulus);
+    lwe_packing::phases(out, input, secret, n, modulus);
     let codec = RoundedCodec::given(params.plaintext_modulus, modulus);
     // The codec's checks have passed, and a phase is a word: 0.
     codec.decode_slice_assign(out)

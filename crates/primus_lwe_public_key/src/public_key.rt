@@ -10,7 +10,6 @@ ghost use Rattle.lwe_secret_key.specs.Key.{keyOf};
 ghost use Rattle.primus_lwe_public_key.specs.Answers.{generateRows, GeneratesPublicKey};
 ghost use Rattle.primus_lwe_public_key.specs.Answers.{publicRows, EncryptsPublic};
 ghost use Rattle.primus_lwe_public_key.specs.Answers.{publicMessageRows, EncryptsPublicMessage};
-use crate::rows;
 use checks::Values;
 use lwe_secret_key::KeyForm;
 use lwe_secret_key::key_differs;
@@ -90,7 +89,7 @@ fn generate_under(
     }
     let n = params.dimension.get();
     let modulus = params.modulus;
-    rows::write_zeros(out, form, words, signed, masks, n, errors, modulus);
+    lwe_public_rows::write_zeros(out, form, words, signed, masks, n, errors, modulus);
     0
 }
 
@@ -217,7 +216,7 @@ impl LwePublicKey {
             return LweAnswer::Refused(r);
         }
         let modulus = params.modulus;
-        rows::write_public(out, key, errors, coefficients, plaintext, modulus);
+        lwe_public_rows::write_public(out, key, errors, coefficients, plaintext, modulus);
         LweAnswer::Written(LweTag::none())
     }
 
@@ -241,7 +240,7 @@ impl LwePublicKey {
         let modulus = params.modulus;
         let t = params.plaintext_modulus;
         let plaintext = encode_or_zero(t, modulus, message, embedding);
-        rows::write_public(out, key, errors, coefficients, plaintext, modulus);
+        lwe_public_rows::write_public(out, key, errors, coefficients, plaintext, modulus);
         LweAnswer::Written(LweTag::none())
     }
 }

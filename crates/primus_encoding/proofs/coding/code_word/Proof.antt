@@ -4,8 +4,8 @@ use borrow.Author.Needs.{needs}
 use Rattle.scheme.specs.Codec.{decode}
 use Rattle.scheme.proofs.Checks.{message-ok}
 use Rattle.primus_reduce.specs.Ring.{sizeOf}
+use Rattle.codec_words.specs.Words.{Moduli}
 use Rattle.primus_encoding.specs.Answers.{encodeWord}
-use Rattle.primus_encoding.specs.Coding.{Moduli}
 use Rattle.primus_encoding.proofs.Laws.{add-is, moduli-of}
 use Rattle.primus_encoding.proofs.coding.code_word.Statement.{statement}
 use Rattle.primus_encoding.proofs.coding.code_word.Tie as tie
