@@ -5,7 +5,7 @@ ghost use Rattle.scheme.specs.Checks.{refusal, dimensionFails};
 ghost use Rattle.checks.specs.Answers.{wordAnswer};
 ghost use Rattle.key_switch_key.specs.Answers.{parameterRows, keyWords};
 ghost use Rattle.c_numbers.specs.Lengths.{packedRows};
-use checks::Sizes;
+use check_order::Sizes;
 use checks::WordAnswer;
 use key_switch_key::LweKeySwitchingParameters;
 use primus_lattice::LweDimension;

@@ -1,15 +1,10 @@
-// Checks that several calls share, each exact for every input; judged.rt has the first number that applies.
+// Checks that several calls share, each exact for every input; check_order has the first number that applies.
 ghost use mathlib.Core.Path.{_≡_};
 ghost use mathlib.Core.Bool.{_||_};
 ghost use Prim.Native.Nat.{_+_, _*_, _/_};
 ghost use Rattle.scheme.specs.Checks.{modulusFails, plaintextFails, smallFails, lengthFails, batchFails, errorLimitFails, wordFails};
 ghost use Rattle.scheme.specs.Checks.{wordsFail, magnitudesFail, signedFail, errorsFail, coefficientsFail, messageFails, messagesFail};
 ghost use Rattle.primus_reduce.specs.Ring.{meant, sizeOf};
-
-mod judged;
-
-pub use judged::Sizes;
-pub use judged::Values;
 use primus_reduce::Modulus;
 use primus_reduce::magnitude;
 

@@ -4,7 +4,7 @@ ghost use Prim.Native.Nat.{_^_, _<_, _≤_};
 ghost use Rattle.scheme.specs.Codec.{modulusSwitch, centeredStart, encodeCentered, decode};
 ghost use Rattle.scheme.proofs.Order.{Sized};
 ghost use Rattle.codec_words.specs.Words.{Moduli, sizeRows};
-use checks::Sizes;
+use check_order::Sizes;
 use primus_reduce::Modulus;
 
 // ⌈t/2⌉, the first message that Centered lifts to a negative number.

@@ -6,9 +6,9 @@ ghost use Rattle.scheme.specs.Modulus.{bits};
 ghost use Rattle.scheme.specs.Basis.{fullCount};
 ghost use Rattle.scheme.specs.Checks.{baseLogFails, baseFails, fullFails, levelsFail, basisRows, lengthFails};
 ghost use Rattle.primus_reduce.specs.Ring.{meant};
-ghost use Rattle.checks.specs.Judged.{JudgesSizes};
+ghost use Rattle.check_order.specs.Judged.{JudgesSizes};
 ghost use Rattle.gadget_parameters.specs.Kinds.{baseLogAnswer, levelsFor, levelCount};
-use checks::Sizes;
+use check_order::Sizes;
 use primus_reduce::Modulus;
 
 // Base-2 logarithm of the gadget radix B.

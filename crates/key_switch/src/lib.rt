@@ -10,7 +10,7 @@ ghost use Rattle.key_switch.specs.Answers.{inputRows, Switches, Switchab
 mod batch;
 
 pub use batch::key_switch_batch_to;
-use checks::Values;
+use check_order::Values;
 use key_switch_kernel::switch_tiles;
 pub use key_switch_key::LweKeySwitchingKey;
 pub use key_switch_key::LweKeySwitchingParameters;

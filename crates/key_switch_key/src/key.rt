@@ -11,7 +11,7 @@ ghost use Rattle.lwe_secret_key.specs.Key.{keyOf};
 ghost use Rattle.key_switch_key.specs.Answers.{qIn, nIn, mIn, levelsIn, entryRows, entryAnswer, entryPart};
 ghost use Rattle.key_switch_key.specs.Answers.{generateRows, Generates, Generable};
 use crate::parameters::LweKeySwitchingParameters;
-use checks::Values;
+use check_order::Values;
 use lwe_secret_key::KeyForm;
 use lwe_secret_key::encrypt_row;
 use lwe_secret_key::key_residue;

@@ -9,8 +9,8 @@ ghost use Rattle.scheme.specs.Tally.{Absent, addTally, good, tallyFails};
 ghost use Rattle.primus_reduce.specs.Ring.{sizeOf};
 ghost use Rattle.lwe_tag.specs.Answers.{meantTally, heldTally, tallyFor, numberOfTally, tallyOf, tagOf};
 ghost use Rattle.lwe_tag.specs.Answers.{cap, markRows, markAnswer};
-use checks::Sizes;
-use checks::Values;
+use check_order::Sizes;
+use check_order::Values;
 use primus_reduce::Modulus;
 
 // A public-key, packed or switched ciphertext has none.

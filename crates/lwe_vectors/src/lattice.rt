@@ -124,7 +124,7 @@ pub(crate) fn ciphertexts(h: Head, a: &[u32], b: &[u32], c: &[u32], out: &mut [u
     }
     let index = h.value as usize;
     said::written(
-        primus_lattice::extract_lwe_at(modulus, dimension, b, index, out),
+        lwe_samples::extract_lwe_at(modulus, dimension, b, index, out),
         said::none(),
     )
 }

@@ -10,7 +10,7 @@ ghost use Rattle.primus_encoding.specs.Coding.{messageFault, codedWord, 
 ghost use Rattle.primus_encoding.specs.Coding.{sliceRows, wordsFault, messagesFault, coded, CodesSlice};
 use crate::PlaintextEmbedding;
 use crate::helpers;
-use checks::Values;
+use check_order::Values;
 use checks::WordAnswer;
 use primus_reduce::Modulus;
 

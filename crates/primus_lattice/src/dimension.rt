@@ -4,7 +4,7 @@ ghost use mathlib.Core.Bool.{_||_};
 ghost use Prim.Native.Nat.{_+_};
 ghost use Rattle.scheme.specs.Checks.{dimensionFails, lengthFails};
 ghost use Rattle.primus_lattice.specs.Answers.{dimensionAnswer, given};
-use checks::Sizes;
+use check_order::Sizes;
 
 // n, the number of mask words.
 pub struct LweDimension(usize);

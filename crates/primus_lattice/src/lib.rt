@@ -1,6 +1,5 @@
-// LWE ciphertexts over words of 32 bits: the dimension, sums, samples of packed ciphertexts, and the tag beside the words.
+// LWE ciphertexts over words of 32 bits: the dimension, sums, and the tag beside the words.
 mod dimension;
-mod multiple_message;
 mod single_message;
 
 pub use dimension::LweDimension;
@@ -9,6 +8,4 @@ pub use lwe_tag::LweAnswer;
 pub use lwe_tag::LweTag;
 pub use lwe_tag::MarkAnswer;
 pub use lwe_tag::Tally;
-pub use multiple_message::extract_lwe_at;
-pub use multiple_message::packed_refused;
 pub use single_message::add_assign;

@@ -1,10 +1,10 @@
 // What encryption is set up with. The constructors judge it at once; every call judges it again, with what it is lent.
 ghost use mathlib.Core.Path.{_≡_};
-ghost use Rattle.checks.specs.Judged.{JudgesSizes};
+ghost use Rattle.check_order.specs.Judged.{JudgesSizes};
 ghost use Rattle.primus_lwe.specs.Answers.{phaseParametersRows, decryptionParametersRows};
 ghost use Rattle.primus_lwe.specs.Answers.{encryptionParametersRows, encryptionParametersAnswer};
 ghost use Rattle.primus_lwe.specs.Answers.{parametersRows, parametersAnswer};
-use checks::Sizes;
+use check_order::Sizes;
 use primus_lattice::LweDimension;
 use primus_reduce::Modulus;
 

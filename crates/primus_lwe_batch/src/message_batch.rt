@@ -13,7 +13,7 @@ ghost use Rattle.lwe_secret_key.specs.Runs.{Run};
 ghost use Rattle.primus_lwe_batch.specs.Answers.{encryptBatchRows, EncryptsBatch, Rowwise, batchPhase};
 ghost use Rattle.primus_lwe_batch.specs.Answers.{batchRows, TakesPhases, DecryptsBatch};
 use crate::sizes;
-use checks::Values;
+use check_order::Values;
 use lwe_secret_key::KeyForm;
 use lwe_secret_key::encrypt_row;
 use lwe_secret_key::phase;

@@ -4,7 +4,7 @@ ghost use Rattle.scheme.specs.Checks.{refusal};
 ghost use Rattle.primus_lwe_packed.specs.Answers.{packedMessageRows, EncryptsPackedMessages};
 ghost use Rattle.primus_lwe_packed.specs.Answers.{packedDecryptRows, DecryptsPacked};
 use crate::packed;
-use checks::Values;
+use check_order::Values;
 use lwe_packing::Packing;
 use lwe_tag::LweAnswer;
 use lwe_tag::LweTag;

@@ -6,12 +6,12 @@ ghost use Rattle.scheme.specs.Checks.{refusal, lengthFails, countFails, packedF
 ghost use Rattle.primus_reduce.specs.Ring.{sizeOf};
 ghost use Rattle.primus_lwe_packed.specs.Answers.{packedRows, EncryptsPacked};
 ghost use Rattle.primus_lwe_packed.specs.Answers.{packedPhaseRows, TakesPackedPhases};
-use checks::Values;
+use check_order::Values;
 use lwe_packing::Packing;
+use lwe_samples::packed_refused;
 use lwe_tag::LweAnswer;
 use lwe_tag::LweTag;
 use primus_lattice::LweDimension;
-use primus_lattice::packed_refused;
 use primus_lwe::LweEncryptionParameters;
 use primus_lwe::LwePhaseParameters;
 use primus_reduce::Modulus;

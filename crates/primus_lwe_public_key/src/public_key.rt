@@ -10,7 +10,7 @@ ghost use Rattle.lwe_secret_key.specs.Key.{keyOf};
 ghost use Rattle.primus_lwe_public_key.specs.Answers.{generateRows, GeneratesPublicKey};
 ghost use Rattle.primus_lwe_public_key.specs.Answers.{publicRows, EncryptsPublic};
 ghost use Rattle.primus_lwe_public_key.specs.Answers.{publicMessageRows, EncryptsPublicMessage};
-use checks::Values;
+use check_order::Values;
 use lwe_secret_key::KeyForm;
 use lwe_secret_key::key_differs;
 use lwe_secret_key::key_or_words_refused;

@@ -2,13 +2,14 @@
 ghost use mathlib.Core.Path.{_≡_};
 ghost use Rattle.primus_reduce.specs.Ring.{modulusFor};
 ghost use Rattle.lwe_tag.specs.Answers.{markAnswer};
-ghost use Rattle.primus_lattice.specs.Answers.{given, Adds, Extracts};
+ghost use Rattle.primus_lattice.specs.Answers.{given, Adds};
+ghost use Rattle.lwe_samples.specs.Answers.{Extracts};
 ghost use Rattle.c_numbers.specs.Service.{Tells, outcomeOf, markNumber};
 use c_numbers::LweOutcome;
+use lwe_samples::extract_lwe_at;
 use primus_lattice::LweDimension;
 use primus_lattice::LweTag;
 use primus_lattice::add_assign;
-use primus_lattice::extract_lwe_at;
 use primus_reduce::Modulus;
 
 // x + y modulo q, word by word, in x, and the tag of the sum. Refuses by 2, 6, 10, 14, 17.

@@ -10,7 +10,7 @@ ghost use Rattle.lwe_secret_key.specs.Key.{keyOf};
 ghost use Rattle.primus_lwe.specs.Answers.{encryptRows, Encrypts, judgedRows, ciphertextRows, TakesPhase};
 use crate::parameter::LweEncryptionParameters;
 use crate::parameter::LwePhaseParameters;
-use checks::Values;
+use check_order::Values;
 use checks::WordAnswer;
 use lwe_secret_key::KeyForm;
 use lwe_tag::LweAnswer;

@@ -7,7 +7,7 @@ ghost use Rattle.primus_lwe.specs.Answers.{messageRows, EncryptsMessage,
 use crate::parameter::LweDecryptionParameters;
 use crate::parameter::LweParameters;
 use crate::secret_key::borrowed;
-use checks::Values;
+use check_order::Values;
 use checks::WordAnswer;
 use lwe_secret_key::KeyForm;
 use lwe_tag::LweAnswer;

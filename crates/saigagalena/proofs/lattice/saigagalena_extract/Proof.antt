@@ -1,5 +1,5 @@
 use borrow.Author.Needs.{needs}
-use Rattle.primus_lattice.proofs.Laws.{extracts-of}
+use Rattle.lwe_samples.proofs.Laws.{extracts-of}
 use Rattle.saigagalena.proofs.lattice.saigagalena_extract.Statement.{statement}
 use Rattle.saigagalena.proofs.lattice.saigagalena_extract.Tie as tie
 
