@@ -8,12 +8,13 @@ use native.Mathlib.Omega.{arith}
 use lib.Dec.{ltb}
 use borrow.Author.Tests.{ltb-true, ltb-false, lt-ltb, le-ltb}
 use Rattle.scheme.specs.Modulus as S
-use Rattle.scheme.specs.Tally.{addTally, tallyFails}
+use Rattle.scheme.specs.Tally.{Absent, addTally, tallyFails}
 use Rattle.primus_reduce.specs.Ring.{meant, sizeOf}
 use Rattle.primus_reduce.specs.declared.modulus.Modulus.{Modulus}
 use Rattle.lwe_tag.specs.declared.Tally.{Tally}
 use Rattle.lwe_tag.specs.declared.Tally.the-variants.{Present}
-use Rattle.lwe_tag.specs.Answers.{meantTally, heldTally, cap}
+use Rattle.lwe_tag.specs.declared.LweTag.{LweTag}
+use Rattle.lwe_tag.specs.Answers.{meantTally, heldTally, cap, tallyOf, tagOf, sumTag}
 
 -- k < a + b, told from k < a, or else from k − a < b
 pub part-above : (k a b : ℕ) → k < a → ltb k a ≡ ltb k (a + b)
@@ -49,3 +50,10 @@ size-most m f = go (meant m) f
     go : (m : S.Modulus) → S.Fits 32 m → S.size 32 m ≤ 2 ^ 32
     go S.Native f = omega arith
     go (S.Explicit q) f = omega arith
+
+-- the tag of a sum, by whether it is refused
+pub sum-over : (x y : LweTag) → tallyFails cap (addTally (tallyOf x) (tallyOf y)) ≡ true → sumTag x y ≡ tagOf Absent
+sum-over x y e = rw e
+
+pub sum-within : (x y : LweTag) → tallyFails cap (addTally (tallyOf x) (tallyOf y)) ≡ false → sumTag x y ≡ tagOf (addTally (tallyOf x) (tallyOf y))
+sum-within x y e = rw e

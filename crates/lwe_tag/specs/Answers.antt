@@ -51,6 +51,12 @@ tagFrom o = tagOf (S.tallyFrom o)
 abbrev pub cap : ℕ
 cap = 2 ^ 32
 
+-- the tag of a sum; no tally where the sum is refused
+abbrev pub sumTag : LweTag → LweTag → LweTag
+sumTag x y =
+    pick (S.tallyFails cap (S.addTally (tallyOf x) (tallyOf y)))
+    (tagOf S.Absent) (tagOf (S.addTally (tallyOf x) (tallyOf y)))
+
 -- "A tally, given or summed"
 abbrev pub tagRows : LweTag → LweTag → List Check
 tagRows x y =

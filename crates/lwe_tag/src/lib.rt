@@ -7,7 +7,7 @@ ghost use lib.Dec.{ltb};
 ghost use Rattle.scheme.specs.Checks.{refusal};
 ghost use Rattle.scheme.specs.Tally.{Absent, addTally, good, tallyFails};
 ghost use Rattle.primus_reduce.specs.Ring.{sizeOf};
-ghost use Rattle.lwe_tag.specs.Answers.{meantTally, heldTally, tallyFor, numberOfTally, tallyOf, tagOf};
+ghost use Rattle.lwe_tag.specs.Answers.{meantTally, heldTally, tallyFor, numberOfTally, tallyOf, tagOf, sumTag};
 ghost use Rattle.lwe_tag.specs.Answers.{cap, markRows, markAnswer};
 use check_order::Sizes;
 use check_order::Values;
@@ -113,12 +113,16 @@ pub fn tags_refused(x: LweTag, y: LweTag) -> bool
     (sum_refused(a, b) | tally_refused(b)) | tally_refused(a)
 }
 
-// A step for a sum that is judged: its tag.
+// The tag of a sum; no tally where it exceeds 2^32, which a sum of ciphertexts refuses by 17.
 pub fn tags_sum(x: LweTag, y: LweTag) -> LweTag
-    requires { ⌜ tallyFails cap (addTally (tallyOf x) (tallyOf y)) ≡ false ⌝ }
-    ensures { λ r. ⌜ r ≡ tagOf (addTally (tallyOf x) (tallyOf y)) ⌝ }
+    ensures { λ r. ⌜ r ≡ sumTag x y ⌝ }
 {
-    let tally = sum(x.tally(), y.tally());
+    let a = x.tally();
+    let b = y.tally();
+    if sum_refused(a, b) {
+        return LweTag::none();
+    }
+    let tally = sum(a, b);
     LweTag {
         tally: tally.number(),
     }
