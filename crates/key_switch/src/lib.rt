@@ -56,7 +56,9 @@ pub(crate) fn switch_judged(
 {
     let n = params.input_dimension;
     let m = params.output_dimension;
-    let p = params.prepared();
+    let basis = params.basis;
+    let log = basis.log_basis();
+    let p = gadget_constants::prepare(basis.modulus(), log.get(), params.level_count());
     switch_tiles(out, input, key, n.get(), m.get(), count, p);
 }
 

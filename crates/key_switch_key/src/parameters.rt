@@ -115,8 +115,8 @@ impl LweKeySwitchingParameters {
         levels.get()
     }
 
-    // A step for calls that have judged the basis: its constants.
-    pub fn prepared(self) -> PreparedBasis
+    // The basis with its constants, for calls that have judged it.
+    pub(crate) fn prepared(self) -> PreparedBasis
         requires { ⌜ refusal (rows (self .basis)) ≡ 0 ⌝ }
         ensures { λ p. ⌜ Ready p × (p ≡ preparedBy (self .basis)) ⌝ }
     {
