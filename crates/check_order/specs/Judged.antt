@@ -11,7 +11,6 @@ pub record OfBasis (rows : List Check) (j : Sizes) : Type 0 where
   pub is-base-log : j .«base_log» ≡ applies rows 1
   pub is-modulus : j .modulus ≡ applies rows 2
   pub is-base : j .base ≡ applies rows 3
-  pub is-full : j .full ≡ applies rows 4
   pub is-levels : j .levels ≡ applies rows 5
 
 -- dimensions, t and E

@@ -9,7 +9,6 @@ pub struct Sizes {
     pub base_log: bool,
     pub modulus: bool,
     pub base: bool,
-    pub full: bool,
     pub levels: bool,
     pub dimension: bool,
     pub plaintext: bool,
@@ -44,7 +43,6 @@ impl Sizes {
         base_log: false,
         modulus: false,
         base: false,
-        full: false,
         levels: false,
         dimension: false,
         plaintext: false,
@@ -69,7 +67,6 @@ impl Sizes {
         let r = pick(self.plaintext, 7, r);
         let r = pick(self.dimension, 6, r);
         let r = pick(self.levels, 5, r);
-        let r = pick(self.full, 4, r);
         let r = pick(self.base, 3, r);
         let r = pick(self.modulus, 2, r);
         pick(self.base_log, 1, r)

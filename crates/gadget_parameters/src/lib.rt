@@ -1,10 +1,10 @@
-// The kinds of a gadget basis, as in the Rust, and what judges them: 1 to 5.
+// The kinds of a gadget basis, as in the Rust, and what judges them: 1 to 3, 5.
 ghost use mathlib.Core.Path.{_≡_};
 ghost use Prim.Native.Nat.{_*_, _^_};
 ghost use lib.Dec.{ltb};
 ghost use Rattle.scheme.specs.Modulus.{bits};
 ghost use Rattle.scheme.specs.Basis.{fullCount};
-ghost use Rattle.scheme.specs.Checks.{baseLogFails, baseFails, fullFails, levelsFail, basisRows, lengthFails};
+ghost use Rattle.scheme.specs.Checks.{baseLogFails, baseFails, levelsFail, basisRows, lengthFails};
 ghost use Rattle.primus_reduce.specs.Ring.{meant};
 ghost use Rattle.check_order.specs.Judged.{JudgesSizes};
 ghost use Rattle.gadget_parameters.specs.Kinds.{baseLogAnswer, levelsFor, levelCount};
@@ -98,13 +98,6 @@ impl DecompositionBaseLog {
             Modulus::Explicit(q) => below_basis(q, self.0),
         }
     }
-
-    // 4: not one whole level fits k.
-    fn full_refused(self, modulus: Modulus) -> bool
-        ensures { λ r. ⌜ r ≡ fullFails (bits 32 (meant modulus)) (self .0) ⌝ }
-    {
-        self.full_count(modulus) < 1
-    }
 }
 
 impl DecompositionLevelCount {
@@ -158,7 +151,7 @@ impl RetainedLevels {
     }
 }
 
-// 1 to 5, each in its field.
+// 1 to 3 and 5, each in its field. That one whole level fits k follows (T-06).
 pub fn basis_sizes(
     modulus: Modulus,
     log_basis: DecompositionBaseLog,
@@ -170,7 +163,6 @@ pub fn basis_sizes(
     s.base_log = log_basis.refused();
     s.modulus = checks::modulus_refused(modulus);
     s.base = log_basis.base_refused(modulus);
-    s.full = log_basis.full_refused(modulus);
     s.levels = level_count.refused(log_basis, modulus);
     s
 }

@@ -15,11 +15,6 @@ use borrow.Author.Tests.{eqb-true, eq-eqb, ne-eqb}
 use Rattle.scheme.specs.Numbers.{pick, tabulate}
 use Rattle.scheme.specs.Checks.{Check, sizes, values, order, applies, firstIn, refusal, Writes}
 
--- document 01 numbers its checks in the order in which they are judged
-pub numbered : order ≡ tabulate 17 (λ i. i + 1)
-unfolding tabulate
-numbered = refl
-
 -- no number of a list is 0
 abbrev pub positive : List ℕ → Bool
 positive [] = true

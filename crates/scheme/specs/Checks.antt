@@ -20,9 +20,9 @@ abbrev pub row : Bool → ℕ → Check
 row b k = record { fails = b; number = k }
 
 -- "Checks, in order": the order in which numbers are judged, stated here and nowhere else. First come numbers and lengths, judged
--- before a word of a lent buffer is read; then what is read there.
+-- before a word of a lent buffer is read; then what is read there. 4 is retired (T-06): no check ever bears it again.
 abbrev pub sizes : List ℕ
-sizes = 1 ∷ 2 ∷ 3 ∷ 4 ∷ 5 ∷ 6 ∷ 7 ∷ 8 ∷ 9 ∷ 10 ∷ 11 ∷ 12 ∷ 13 ∷ []
+sizes = 1 ∷ 2 ∷ 3 ∷ 5 ∷ 6 ∷ 7 ∷ 8 ∷ 9 ∷ 10 ∷ 11 ∷ 12 ∷ 13 ∷ []
 
 abbrev pub values : List ℕ
 values = 14 ∷ 15 ∷ 16 ∷ 17 ∷ []
@@ -62,21 +62,16 @@ abbrev pub baseFails : ℕ → Modulus → Bool
 baseFails b Native = false
 baseFails b (Explicit q) = ltb q (2 ^ b)
 
--- "4. Not one whole level fits k."
-abbrev pub fullFails : ℕ → ℕ → Bool
-fullFails k b = ltb (fullCount k b) 1
-
 -- "5. The level count is 0 or above the full count."
 abbrev pub levelsFail : ℕ → ℕ → ℕ → Bool
 levelsFail k b L = ltb L 1 || ltb (fullCount k b) L
 
--- 1 to 5, for every call that takes a basis
+-- 1, 2, 3 and 5, for every call that takes a basis
 abbrev pub basisRows : ℕ → Modulus → ℕ → ℕ → List Check
 basisRows w m b L =
     row (baseLogFails w b) 1
     ∷ row (modulusFails m) 2
     ∷ row (baseFails b m) 3
-    ∷ row (fullFails (bits w m) b) 4
     ∷ row (levelsFail (bits w m) b L) 5
     ∷ []
 
