@@ -1,4 +1,5 @@
-// The constants of a gadget basis, and what they make of a word. The calls of primus_decompose judge first.
+// The constants of a gadget basis, and what they make of a word. The functions with a `requires` are not for users: the calls of
+// primus_decompose judge first.
 mod prepared;
 mod word;
 

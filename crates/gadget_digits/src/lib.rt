@@ -1,4 +1,5 @@
-// The decomposer: windows of the adjusted word, each with the carry from the one below.
+// The decomposer: windows of the adjusted word, each with the carry from the one below. `write_column` is a step of the calls above, not
+// for users: it has a `requires`.
 ghost use mathlib.Core.Path.{_≡_};
 ghost use Prim.Native.Nat.{_+_, _*_, _/_, _%_, _^_, _<_, _≤_};
 ghost use lib.Dec.{ltb, eqb};
