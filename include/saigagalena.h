@@ -41,7 +41,7 @@
 #define SAIGAGALENA_BASE_LOG 1            /* the base log is below 2 or above 31 */
 #define SAIGAGALENA_MODULUS_BELOW_4 2     /* the modulus is 1, 2 or 3 */
 #define SAIGAGALENA_MODULUS_BELOW_BASE 3  /* the modulus is not 0 and below 2^(base log) */
-#define SAIGAGALENA_NO_LEVEL_FITS 4       /* not one whole level fits; never given */
+#define SAIGAGALENA_NO_LEVEL_FITS 4       /* retired: no call gives it, and nothing else will bear the number */
 #define SAIGAGALENA_LEVELS 5              /* more levels than fit */
 #define SAIGAGALENA_DIMENSION 6           /* a dimension is 0 or above 2048 */
 #define SAIGAGALENA_PLAINTEXT_MODULUS 7   /* t is below 2 or above 65536 */
@@ -64,7 +64,7 @@ static inline const char *saigagalena_refusal_text(uint32_t refusal)
         "the base log is below 2 or above 31",
         "the modulus is below 4",
         "the modulus is below the base",
-        "not one whole level fits",
+        "retired",
         "the level count is 0 or above what fits",
         "a dimension is 0 or above 2048",
         "the plaintext modulus is below 2 or above 65536",

@@ -6,7 +6,7 @@ fn parameters(number: u32) {
         1 => programs::write(b"the base log is below 2 or above 31"),
         2 => programs::write(b"the modulus is below 4"),
         3 => programs::write(b"the modulus is below the base"),
-        4 => programs::write(b"not one whole level fits"),
+        4 => programs::write(b"retired"),
         5 => programs::write(b"the level count is 0 or more than fit"),
         6 => programs::write(b"a dimension is 0 or above 2048"),
         7 => programs::write(b"the plaintext modulus is below 2 or above 65536"),

@@ -1,6 +1,6 @@
 // The answers of the calls. `Refused` holds the first number of document 01 that applies:
 // 1 base log below 2 or above 31, 2 explicit modulus below 4, 3 explicit modulus below B,
-// 4 not one whole level fits k, 5 level count 0 or above the full count, 14 a word is not below q.
+// 5 level count 0 or above the full count, 14 a word is not below q.
 use crate::primitive::ApproxSignedBasis;
 use gadget_constants::PreparedBasis;
 use gadget_constants::Reading;
