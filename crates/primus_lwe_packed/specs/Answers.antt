@@ -10,12 +10,13 @@ use Rattle.scheme.specs.Checks.{Check, row, Writes, lengthFails, countFails, pa
 use Rattle.scheme.specs.Checks.{wordsFail, errorsFail, messagesFail}
 use Rattle.primus_reduce.specs.Ring.{sizeOf}
 use Rattle.primus_encoding.specs.declared.PlaintextEmbedding.{PlaintextEmbedding}
-use Rattle.primus_lwe.specs.declared.parameter.LweEncryptionParameters.{LweEncryptionParameters}
-use Rattle.primus_lwe.specs.declared.parameter.LweParameters.{LweParameters}
-use Rattle.primus_lwe.specs.declared.parameter.LwePhaseParameters.{LwePhaseParameters}
-use Rattle.primus_lwe.specs.declared.parameter.LweDecryptionParameters.{LweDecryptionParameters}
-use Rattle.primus_lwe.specs.Answers.{phaseParametersRows, decryptionParametersRows, encryptionParametersRows}
-use Rattle.primus_lwe.specs.Answers.{parametersRows, encodings}
+use Rattle.lwe_parameters.specs.declared.parameter.LweEncryptionParameters.{LweEncryptionParameters}
+use Rattle.lwe_parameters.specs.declared.parameter.LweParameters.{LweParameters}
+use Rattle.lwe_parameters.specs.declared.parameter.LwePhaseParameters.{LwePhaseParameters}
+use Rattle.lwe_parameters.specs.declared.parameter.LweDecryptionParameters.{LweDecryptionParameters}
+use Rattle.lwe_parameters.specs.Answers.{phaseParametersRows, decryptionParametersRows, encryptionParametersRows}
+use Rattle.lwe_parameters.specs.Answers.{parametersRows}
+use Rattle.primus_lwe.specs.Answers.{encodings}
 use Rattle.lwe_tag.specs.declared.LweAnswer.{LweAnswer}
 use Rattle.lwe_tag.specs.Answers.{tagFrom, WritesTagged}
 use Rattle.scheme.specs.Tally.{Packed}

@@ -11,10 +11,10 @@ use Rattle.primus_encoding.specs.declared.PlaintextEmbedding.{PlaintextEmbeddin
 use Rattle.primus_encoding.specs.Answers.{EncodesSlice, DecodesSlice}
 use Rattle.scheme.specs.Lwe.{Key}
 use Rattle.checks.specs.declared.WordAnswer.{WordAnswer}
-use Rattle.primus_lwe.specs.declared.parameter.LweEncryptionParameters.{LweEncryptionParameters}
-use Rattle.primus_lwe.specs.declared.parameter.LweParameters.{LweParameters}
-use Rattle.primus_lwe.specs.declared.parameter.LwePhaseParameters.{LwePhaseParameters}
-use Rattle.primus_lwe.specs.declared.parameter.LweDecryptionParameters.{LweDecryptionParameters}
+use Rattle.lwe_parameters.specs.declared.parameter.LweEncryptionParameters.{LweEncryptionParameters}
+use Rattle.lwe_parameters.specs.declared.parameter.LweParameters.{LweParameters}
+use Rattle.lwe_parameters.specs.declared.parameter.LwePhaseParameters.{LwePhaseParameters}
+use Rattle.lwe_parameters.specs.declared.parameter.LweDecryptionParameters.{LweDecryptionParameters}
 use Rattle.lwe_tag.specs.declared.LweAnswer.{LweAnswer}
 use Rattle.primus_lwe.specs.Answers.{Encrypts, EncryptsMessage, TakesPhase, Decrypts}
 use Rattle.primus_lwe_batch.specs.Answers.{EncryptsBatch, TakesPhases, DecryptsBatch}
