@@ -31,7 +31,8 @@ use Rattle.primus_lwe.proofs.Coded.{messageable}
 use Rattle.lwe_batch_refusals.specs.Rows.{encryptBatchRows}
 use Rattle.primus_lwe_batch.specs.Answers.{EncryptsBatch}
 use Rattle.primus_lwe_batch.proofs.Laws.{batchable}
-use Rattle.primus_lwe_packed.specs.Answers.{packedRows, packedMessageRows, EncryptsPacked, EncryptsPackedMessages}
+use Rattle.lwe_packed_refusals.specs.Rows.{packedRows, packedMessageRows}
+use Rattle.primus_lwe_packed.specs.Answers.{EncryptsPacked, EncryptsPackedMessages}
 use Rattle.primus_lwe_packed.proofs.Laws.{packable, packable-messages}
 use Rattle.primus_lwe_public_key.specs.Answers.{generateRows, GeneratesPublicKey, EncryptsPublic, EncryptsPublicMessage}
 use Rattle.primus_lwe_public_key.proofs.Laws.{generable}

@@ -1,7 +1,7 @@
 use mathlib.Core.Path.{ap₂}
 use mathlib.Core.Bool.{_||_}
-use Rattle.primus_lwe_packed.proofs.packed.words_refused.Statement.{statement}
-use Rattle.primus_lwe_packed.proofs.packed.words_refused.Tie as tie
+use Rattle.lwe_packed_refusals.proofs.packed.words_refused.Statement.{statement}
+use Rattle.lwe_packed_refusals.proofs.packed.words_refused.Tie as tie
 
 returns : tie.Need-returns
 returns c = ap₂ _||_ (c .before .both-refused .ensures) (c .words-refused .ensures)

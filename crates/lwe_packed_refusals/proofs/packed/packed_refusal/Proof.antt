@@ -2,9 +2,9 @@ use mathlib.Core.List.{List}
 use borrow.Author.Needs.{needs}
 use Rattle.scheme.specs.Checks.{Check}
 use Rattle.scheme.proofs.Order.{Sized, early, late}
-use Rattle.primus_lwe_packed.specs.Answers.{packedRows}
-use Rattle.primus_lwe_packed.proofs.packed.packed_refusal.Statement.{statement}
-use Rattle.primus_lwe_packed.proofs.packed.packed_refusal.Tie as tie
+use Rattle.lwe_packed_refusals.specs.Rows.{packedRows}
+use Rattle.lwe_packed_refusals.proofs.packed.packed_refusal.Statement.{statement}
+use Rattle.lwe_packed_refusals.proofs.packed.packed_refusal.Tie as tie
 
 abbrev rows : tie.After-first → List Check
 rows c = let a = c .before .before .before .before .before .before .before .before .before .before .args in packedRows (a .params) (a .secret .now) (a .mask .now) (a .errors .now) (a .plaintexts .now) (a .room)

@@ -2,9 +2,9 @@ use mathlib.Core.List.{List}
 use borrow.Author.Needs.{needs}
 use Rattle.scheme.specs.Checks.{Check}
 use Rattle.scheme.proofs.Order.{Sized, early, late}
-use Rattle.primus_lwe_packed.specs.Answers.{packedMessageRows}
-use Rattle.primus_lwe_packed.proofs.message_packed.packed_message_refusal.Statement.{statement}
-use Rattle.primus_lwe_packed.proofs.message_packed.packed_message_refusal.Tie as tie
+use Rattle.lwe_packed_refusals.specs.Rows.{packedMessageRows}
+use Rattle.lwe_packed_refusals.proofs.message_packed.packed_message_refusal.Statement.{statement}
+use Rattle.lwe_packed_refusals.proofs.message_packed.packed_message_refusal.Tie as tie
 
 abbrev rows : tie.After-first → List Check
 rows c = let a = c .before .before .before .before .before .before .before .before .before .before .args in packedMessageRows (a .params) (a .secret .now) (a .mask .now) (a .errors .now) (a .messages .now) (a .room)

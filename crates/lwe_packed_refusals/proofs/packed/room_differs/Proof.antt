@@ -1,6 +1,6 @@
-use Rattle.primus_lwe_packed.proofs.Laws.{room-short, room-rest}
-use Rattle.primus_lwe_packed.proofs.packed.room_differs.Statement.{statement}
-use Rattle.primus_lwe_packed.proofs.packed.room_differs.Tie as tie
+use Rattle.lwe_packed_refusals.proofs.Laws.{room-short, room-rest}
+use Rattle.lwe_packed_refusals.proofs.packed.room_differs.Statement.{statement}
+use Rattle.lwe_packed_refusals.proofs.packed.room_differs.Tie as tie
 
 returns : tie.Need-returns
 returns c = let g = c .before in let a = g .before .args in room-short (a .room) _ (a .count) (g .get .ensures) (c .if1 .taken)

@@ -1,7 +1,7 @@
 use mathlib.Core.Path.{ap, _∙_}
 use Rattle.scheme.specs.Checks.{packedFails}
-use Rattle.primus_lwe_packed.proofs.packed.input_refused.Statement.{statement}
-use Rattle.primus_lwe_packed.proofs.packed.input_refused.Tie as tie
+use Rattle.lwe_packed_refusals.proofs.packed.input_refused.Statement.{statement}
+use Rattle.lwe_packed_refusals.proofs.packed.input_refused.Tie as tie
 
 returns : tie.Need-returns
 returns c = c .packed-refused .ensures ∙ ap (packedFails (c .before .before .args .len)) (c .before .get .ensures)

@@ -1,7 +1,7 @@
 use mathlib.Core.Path.{ap}
 use Rattle.scheme.specs.Checks.{countFails}
-use Rattle.primus_lwe_packed.proofs.packed.count_refused.Statement.{statement}
-use Rattle.primus_lwe_packed.proofs.packed.count_refused.Tie as tie
+use Rattle.lwe_packed_refusals.proofs.packed.count_refused.Statement.{statement}
+use Rattle.lwe_packed_refusals.proofs.packed.count_refused.Tie as tie
 
 returns : tie.Need-returns
 returns c = ap (countFails (c .before .args .count)) (c .get .ensures)

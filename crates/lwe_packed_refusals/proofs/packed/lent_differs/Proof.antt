@@ -1,8 +1,8 @@
 use mathlib.Core.Path.{ap}
 use mathlib.Core.Bool.{_||_}
 use Rattle.scheme.specs.Checks.{lengthFails}
-use Rattle.primus_lwe_packed.proofs.packed.lent_differs.Statement.{statement}
-use Rattle.primus_lwe_packed.proofs.packed.lent_differs.Tie as tie
+use Rattle.lwe_packed_refusals.proofs.packed.lent_differs.Statement.{statement}
+use Rattle.lwe_packed_refusals.proofs.packed.lent_differs.Tie as tie
 
 returns : tie.Need-returns
 returns c = let a = c .before .args in ap (λ b. lengthFails (a .errors) (a .count) || b) (c .differs .ensures)

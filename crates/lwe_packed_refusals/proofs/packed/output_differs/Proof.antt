@@ -2,9 +2,9 @@ use mathlib.Core.Path.{ap}
 use Prim.Native.Nat.{_-_}
 use native.Mathlib.Omega.{arith}
 use Rattle.scheme.specs.Checks.{lengthFails}
-use Rattle.primus_lwe_packed.proofs.Laws.{no-bodies}
-use Rattle.primus_lwe_packed.proofs.packed.output_differs.Statement.{statement}
-use Rattle.primus_lwe_packed.proofs.packed.output_differs.Tie as tie
+use Rattle.lwe_packed_refusals.proofs.Laws.{no-bodies}
+use Rattle.lwe_packed_refusals.proofs.packed.output_differs.Statement.{statement}
+use Rattle.lwe_packed_refusals.proofs.packed.output_differs.Tie as tie
 
 returns : tie.Need-returns
 returns c = let g = c .before in let a = g .before .args in no-bodies (a .room) _ (a .len) (g .get .ensures) (c .if1 .taken)
