@@ -2,10 +2,10 @@ use mathlib.Core.List.{List}
 use borrow.Author.Needs.{needs}
 use Rattle.scheme.specs.Checks.{Check}
 use Rattle.scheme.proofs.Order.{Sized, early, late}
-use Rattle.pooling.specs.Total.{beginRows}
-use Rattle.pooling.proofs.Laws.{begin-sized}
-use Rattle.pooling.proofs.total.begin_judged.Statement.{statement}
-use Rattle.pooling.proofs.total.begin_judged.Tie as tie
+use Rattle.pooling_refusals.specs.Rows.{beginRows}
+use Rattle.pooling_refusals.proofs.Laws.{begin-sized}
+use Rattle.pooling_refusals.proofs.total.begin_judged.Statement.{statement}
+use Rattle.pooling_refusals.proofs.total.begin_judged.Tie as tie
 
 abbrev rows : tie.After-sizes-refusal → List Check
 rows c = let a = c .before .before .args in beginRows (a .params) (a .h) (a .bytes .now) (a .len) (a .places)

@@ -1,7 +1,7 @@
 use borrow.Author.Needs.{needs}
-use Rattle.pooling.specs.Total.{sizeRows}
-use Rattle.pooling.proofs.total.sizes_refusal.Statement.{statement}
-use Rattle.pooling.proofs.total.sizes_refusal.Tie as tie
+use Rattle.pooling_refusals.specs.Rows.{sizeRows}
+use Rattle.pooling_refusals.proofs.total.sizes_refusal.Statement.{statement}
+use Rattle.pooling_refusals.proofs.total.sizes_refusal.Tie as tie
 
 returns : tie.Need-returns
 returns c =

@@ -3,8 +3,8 @@ use mathlib.Core.Bool.{_||_}
 use Prim.Native.Nat.{_+_, _*_}
 use borrow.Author.Needs.{needs}
 use Rattle.scheme.specs.Checks.{lengthFails}
-use Rattle.pooling.proofs.total.rows_differ.Statement.{statement}
-use Rattle.pooling.proofs.total.rows_differ.Tie as tie
+use Rattle.pooling_refusals.proofs.total.rows_differ.Statement.{statement}
+use Rattle.pooling_refusals.proofs.total.rows_differ.Tie as tie
 
 returns : tie.Need-returns
 returns c =

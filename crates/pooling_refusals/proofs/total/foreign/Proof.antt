@@ -1,7 +1,7 @@
 use mathlib.Core.Path.{ap₂}
 use mathlib.Core.Bool.{_||_}
-use Rattle.pooling.proofs.total.foreign.Statement.{statement}
-use Rattle.pooling.proofs.total.foreign.Tie as tie
+use Rattle.pooling_refusals.proofs.total.foreign.Statement.{statement}
+use Rattle.pooling_refusals.proofs.total.foreign.Tie as tie
 
 pub foreign-spec : {M : Type 1} → statement M
 foreign-spec =

@@ -1,7 +1,7 @@
-use Rattle.pooling.specs.Total.{totalRows}
-use Rattle.pooling.proofs.Laws.{foreign-is, own-is}
-use Rattle.pooling.proofs.total.total_refusal.Statement.{statement}
-use Rattle.pooling.proofs.total.total_refusal.Tie as tie
+use Rattle.pooling_refusals.specs.Rows.{totalRows}
+use Rattle.pooling_refusals.proofs.Laws.{foreign-is, own-is}
+use Rattle.pooling_refusals.proofs.total.total_refusal.Statement.{statement}
+use Rattle.pooling_refusals.proofs.total.total_refusal.Tie as tie
 
 returns : tie.Need-returns
 returns c =

@@ -7,9 +7,9 @@ use Rattle.checks.proofs.Laws.{anyFails, any-none}
 use Rattle.primus_reduce.specs.Ring.{sizeOf}
 use Rattle.saved.specs.Layout.{fileWord, fileWords}
 use Rattle.pooling_rows.proofs.Laws.{scan-hit, scan-more}
-use Rattle.pooling.proofs.Laws.{words-end, word-hit, word-passes}
-use Rattle.pooling.proofs.total.file_words_refused.Statement.{statement}
-use Rattle.pooling.proofs.total.file_words_refused.Tie as tie
+use Rattle.pooling_refusals.proofs.Laws.{words-end, word-hit, word-passes}
+use Rattle.pooling_refusals.proofs.total.file_words_refused.Statement.{statement}
+use Rattle.pooling_refusals.proofs.total.file_words_refused.Tie as tie
 
 abbrev Inv-loop : tie.InvT-loop
 Inv-loop q bytes count any₀ i₀ any i = (i ≤ count) × (any ≡ anyFails (λ x. ltb x (sizeOf q)) (fileWords bytes count) i)

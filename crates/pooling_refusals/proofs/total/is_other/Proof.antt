@@ -1,6 +1,6 @@
 use borrow.Author.Tests.{eq-eqb, ne-eqb}
-use Rattle.pooling.proofs.total.is_other.Statement.{statement}
-use Rattle.pooling.proofs.total.is_other.Tie as tie
+use Rattle.pooling_refusals.proofs.total.is_other.Statement.{statement}
+use Rattle.pooling_refusals.proofs.total.is_other.Tie as tie
 
 returns : tie.Need-returns
 returns c = rw (ne-eqb _ _ (c .if1 .taken))

@@ -1,7 +1,7 @@
-use Rattle.pooling.specs.Total.{beginRows}
-use Rattle.pooling.proofs.Laws.{foreign-is, own-is}
-use Rattle.pooling.proofs.total.begin_refusal.Statement.{statement}
-use Rattle.pooling.proofs.total.begin_refusal.Tie as tie
+use Rattle.pooling_refusals.specs.Rows.{beginRows}
+use Rattle.pooling_refusals.proofs.Laws.{foreign-is, own-is}
+use Rattle.pooling_refusals.proofs.total.begin_refusal.Statement.{statement}
+use Rattle.pooling_refusals.proofs.total.begin_refusal.Tie as tie
 
 returns : tie.Need-returns
 returns c =

@@ -2,10 +2,10 @@ use mathlib.Core.List.{List}
 use borrow.Author.Needs.{needs}
 use Rattle.scheme.specs.Checks.{Check}
 use Rattle.scheme.proofs.Order.{Sized, early, late}
-use Rattle.pooling.specs.Total.{totalRows}
-use Rattle.pooling.proofs.Laws.{total-sized}
-use Rattle.pooling.proofs.total.judged.Statement.{statement}
-use Rattle.pooling.proofs.total.judged.Tie as tie
+use Rattle.pooling_refusals.specs.Rows.{totalRows}
+use Rattle.pooling_refusals.proofs.Laws.{total-sized}
+use Rattle.pooling_refusals.proofs.total.judged.Statement.{statement}
+use Rattle.pooling_refusals.proofs.total.judged.Tie as tie
 
 abbrev rows : tie.After-sizes-refusal → List Check
 rows c =

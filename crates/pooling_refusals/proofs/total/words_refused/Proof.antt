@@ -1,8 +1,8 @@
 use mathlib.Core.Path.{ap₂}
 use mathlib.Core.Bool.{_||_}
 use borrow.Author.Needs.{needs}
-use Rattle.pooling.proofs.total.words_refused.Statement.{statement}
-use Rattle.pooling.proofs.total.words_refused.Tie as tie
+use Rattle.pooling_refusals.proofs.total.words_refused.Statement.{statement}
+use Rattle.pooling_refusals.proofs.total.words_refused.Tie as tie
 
 pub words-refused-spec : {M : Type 1} → statement M
 words-refused-spec =
