@@ -21,7 +21,7 @@ use Rattle.primus_lwe_batch.specs.Answers.{EncryptsBatch, TakesPhases, Decrypts
 use Rattle.key_switch_key.specs.declared.parameters.LweKeySwitchingParameters.{LweKeySwitchingParameters}
 use Rattle.key_switch_key.specs.Answers.{Generates}
 use Rattle.key_switch.specs.Answers.{Switches, SwitchesBatch}
-use Rattle.c_numbers.specs.Bases.{WritesBasis, WritesReading}
+use Rattle.c_basis.specs.Bases.{WritesBasis, WritesReading}
 
 module _ {b d : ApproxSignedBasis} (e : b ≡ d) {r : ℕ} where
   pub basis-of : {before after : List ℕ} → WritesBasis b before r after → WritesBasis d before r after

@@ -1,8 +1,7 @@
 // The basis and a reading, written as rows of numbers.
 ghost use mathlib.Core.Path.{_≡_};
 ghost use lib.ListN.{length};
-ghost use Rattle.c_numbers.specs.Bases.{constants, WritesBasis, sized, Wrote, WritesReading};
-use crate::answers;
+ghost use Rattle.c_basis.specs.Bases.{constants, WritesBasis, sized, Wrote, WritesReading};
 use primus_decompose::ApproxSignedBasis;
 use primus_decompose::ReadingAnswer;
 
@@ -51,7 +50,7 @@ pub fn write_basis(out: &mut [u32], basis: ApproxSignedBasis) -> u32
     if r != 0 {
         return r;
     }
-    let threshold = answers::or_zero(basis.threshold());
+    let threshold = c_answers::or_zero(basis.threshold());
     write_constants(out, basis, threshold);
     0
 }

@@ -1,6 +1,6 @@
 use borrow.Author.Needs.{needs}
-use Rattle.c_numbers.proofs.answers.mark_number.Statement.{statement}
-use Rattle.c_numbers.proofs.answers.mark_number.Tie as tie
+use Rattle.c_answers.proofs.answers.mark_number.Statement.{statement}
+use Rattle.c_answers.proofs.answers.mark_number.Tie as tie
 
 returns-3 : tie.Need-returns-3
 returns-3 c = rw (c .before .before .answer2 .given .1) (c .refused .ensures)

@@ -2,10 +2,10 @@ use mathlib.Core.Path.{_≡_, sym, ap, _∙_}
 use Prim.Native.Nat.{ℕ}
 use borrow.Author.Needs.{needs}
 use Rattle.lwe_tag.specs.declared.LweTag.{LweTag}
-use Rattle.c_numbers.specs.declared.answers.LweOutcome.{LweOutcome}
-use Rattle.c_numbers.specs.Service.{outcomeOf}
-use Rattle.c_numbers.proofs.answers.outcome.Statement.{statement}
-use Rattle.c_numbers.proofs.answers.outcome.Tie as tie
+use Rattle.c_answers.specs.declared.answers.LweOutcome.{LweOutcome}
+use Rattle.c_answers.specs.Service.{outcomeOf}
+use Rattle.c_answers.proofs.answers.outcome.Statement.{statement}
+use Rattle.c_answers.proofs.answers.outcome.Tie as tie
 
 with-tag : {r : ℕ} {g h : LweTag} → g ≡ h → _≡_ {A = LweOutcome} (record { refusal = r; tag = g }) (record { refusal = r; tag = h })
 with-tag {r} e = ap (λ (g : LweTag). record { refusal = r; tag = g }) e

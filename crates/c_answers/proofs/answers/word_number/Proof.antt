@@ -1,6 +1,6 @@
 use borrow.Author.Needs.{needs}
-use Rattle.c_numbers.proofs.answers.word_number.Statement.{statement}
-use Rattle.c_numbers.proofs.answers.word_number.Tie as tie
+use Rattle.c_answers.proofs.answers.word_number.Statement.{statement}
+use Rattle.c_answers.proofs.answers.word_number.Tie as tie
 
 returns-2 : tie.Need-returns-2
 returns-2 c = rw (c .before .before .answer2 .given .1) (c .refused .ensures)

@@ -1,7 +1,7 @@
 use borrow.Author.Needs.{needs}
-use Rattle.c_numbers.specs.Bases.{outputRows}
-use Rattle.c_numbers.proofs.basis.sizes_refusal.Statement.{statement}
-use Rattle.c_numbers.proofs.basis.sizes_refusal.Tie as tie
+use Rattle.c_basis.specs.Bases.{outputRows}
+use Rattle.c_basis.proofs.basis.sizes_refusal.Statement.{statement}
+use Rattle.c_basis.proofs.basis.sizes_refusal.Tie as tie
 
 returns : tie.Need-returns
 returns c =

@@ -4,8 +4,8 @@ use native.Mathlib.Omega.{arith}
 use lib.ListN.{length}
 use lib.Seq.{getD-at}
 use Rattle.scheme.proofs.InPlace.{Filled, filled-start, filled-next, filled-end}
-use Rattle.c_numbers.proofs.basis.copy.Statement.{statement}
-use Rattle.c_numbers.proofs.basis.copy.Tie as tie
+use Rattle.c_basis.proofs.basis.copy.Statement.{statement}
+use Rattle.c_basis.proofs.basis.copy.Tie as tie
 
 abbrev Inv-loop : tie.InvT-loop
 Inv-loop out₀ words i₀ out i = (i ≤ length words) × Filled words out₀ out i

@@ -16,9 +16,9 @@ use Rattle.primus_decompose.specs.declared.error.ReadingAnswer.the-variants.{Re
 use Rattle.primus_decompose.specs.declared.primitive.basis.ApproxSignedBasis.{ApproxSignedBasis}
 use Rattle.gadget_constants.specs.Word.{readingOf}
 use Rattle.primus_decompose.specs.Answers.{basis, wordRows, readingAnswer}
-use Rattle.c_numbers.specs.Bases.{sized, outputRows, readingRows, Wrote, WritesReading}
-use Rattle.c_numbers.proofs.basis.write_reading.Statement.{statement}
-use Rattle.c_numbers.proofs.basis.write_reading.Tie as tie
+use Rattle.c_basis.specs.Bases.{sized, outputRows, readingRows, Wrote, WritesReading}
+use Rattle.c_basis.proofs.basis.write_reading.Statement.{statement}
+use Rattle.c_basis.proofs.basis.write_reading.Tie as tie
 
 module _ (b : ApproxSignedBasis) (a : ℕ) where
   sizes-of : (room : ℕ) {r : ℕ} → sized b room 2 r → Sized (readingRows b a room) r

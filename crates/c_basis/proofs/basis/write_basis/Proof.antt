@@ -11,9 +11,9 @@ use Rattle.scheme.proofs.Order.{passed, passed-part, only, refused, done}
 use Rattle.primus_decompose.specs.declared.primitive.basis.ApproxSignedBasis.{ApproxSignedBasis}
 use Rattle.primus_decompose.specs.Answers.{basis, rows, thresholdAnswer}
 use Rattle.primus_encoding.specs.Answers.{orZero}
-use Rattle.c_numbers.specs.Bases.{sized, outputRows, constants}
-use Rattle.c_numbers.proofs.basis.write_basis.Statement.{statement}
-use Rattle.c_numbers.proofs.basis.write_basis.Tie as tie
+use Rattle.c_basis.specs.Bases.{sized, outputRows, constants}
+use Rattle.c_basis.proofs.basis.write_basis.Statement.{statement}
+use Rattle.c_basis.proofs.basis.write_basis.Tie as tie
 
 module _ (b : ApproxSignedBasis) (room : ℕ) where
   -- no values are judged

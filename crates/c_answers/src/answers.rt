@@ -1,7 +1,7 @@
 // Answers for C: a refusal with a tag, or one number of 64 bits, the result or 2^32 plus the refusal number.
 ghost use mathlib.Core.Path.{_≡_};
 ghost use Rattle.primus_encoding.specs.Answers.{orZero};
-ghost use Rattle.c_numbers.specs.Service.{outcomeOf, refusedNumber, wordNumber, markNumber};
+ghost use Rattle.c_answers.specs.Service.{outcomeOf, refusedNumber, wordNumber, markNumber};
 use checks::WordAnswer;
 use lwe_tag::LweAnswer;
 use lwe_tag::LweTag;

@@ -3,8 +3,8 @@ use mathlib.Core.List.{[], _∷_}
 use Prim.Native.Nat.{ℕ, _%_, _^_}
 use borrow.Author.Needs.{needs}
 use Rattle.gadget_parameters.specs.declared.DecompositionLevelCount.{DecompositionLevelCount}
-use Rattle.c_numbers.proofs.basis.write_constants.Statement.{statement}
-use Rattle.c_numbers.proofs.basis.write_constants.Tie as tie
+use Rattle.c_basis.proofs.basis.write_constants.Statement.{statement}
+use Rattle.c_basis.proofs.basis.write_constants.Tie as tie
 
 -- six words that are equal in their places
 six : {a a′ b b′ d d′ e e′ g g′ : ℕ} (h : ℕ) → a ≡ a′ → b ≡ b′ → d ≡ d′ → e ≡ e′ → g ≡ g′

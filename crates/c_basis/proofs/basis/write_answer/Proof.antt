@@ -7,8 +7,8 @@ use mir.Facts.{toZ-ofZ}
 use mir.Syntax.{w64}
 use mir.Val.{SFits}
 use borrow.Author.Needs.{needs}
-use Rattle.c_numbers.proofs.basis.write_answer.Statement.{statement}
-use Rattle.c_numbers.proofs.basis.write_answer.Tie as tie
+use Rattle.c_basis.proofs.basis.write_answer.Statement.{statement}
+use Rattle.c_basis.proofs.basis.write_answer.Tie as tie
 
 two : (xs : List ℤ) (a b : ℤ) → length xs ≡ 2 → set (set xs 0 a) 1 b ≡ a ∷ b ∷ []
 two [] a b e = absurd (omega arith)
