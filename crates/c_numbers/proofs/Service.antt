@@ -16,7 +16,8 @@ use Rattle.scheme.proofs.Order.{passed}
 use Rattle.primus_reduce.specs.Ring.{sizeOf, modulusFor}
 use Rattle.checks.specs.declared.WordAnswer.the-variants as W
 use Rattle.primus_encoding.specs.Answers.{decodeRows}
-use Rattle.c_numbers.specs.Service.{wordNumber, decodeNumber}
+use Rattle.c_answers.specs.Service.{wordNumber}
+use Rattle.c_numbers.specs.Service.{decodeNumber}
 
 -- the first of 2, 7, 8, 14 that applies, or 0
 abbrev pub refusalOf : ℕ → ℕ → ℕ → ℕ

@@ -1,4 +1,3 @@
-pub mod Bases
 pub mod Lengths
 pub mod Numbers
 pub mod Service

@@ -1,17 +1,15 @@
-// What the plain numbers of a C call stand for, and answers as numbers: for the exports of saigagalena.
-mod answers;
-mod basis;
+// What the plain numbers of a C call stand for: for the exports of saigagalena.
 mod lengths;
 mod parameters;
 
-pub use answers::LweOutcome;
-pub use answers::mark_number;
-pub use answers::or_zero;
-pub use answers::outcome;
-pub use answers::refused;
-pub use answers::word_number;
-pub use basis::write_basis;
-pub use basis::write_reading;
+pub use c_answers::LweOutcome;
+pub use c_answers::mark_number;
+pub use c_answers::or_zero;
+pub use c_answers::outcome;
+pub use c_answers::refused;
+pub use c_answers::word_number;
+pub use c_basis::write_basis;
+pub use c_basis::write_reading;
 pub use lengths::ciphertext_words;
 pub use lengths::packed_words;
 pub use lengths::public_key_words;

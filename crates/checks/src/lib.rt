@@ -1,10 +1,16 @@
 // Checks that several calls share, each exact for every input; check_order has the first number that applies.
 ghost use mathlib.Core.Path.{_≡_};
 ghost use mathlib.Core.Bool.{_||_};
-ghost use Prim.Native.Nat.{_+_, _*_, _/_};
-ghost use Rattle.scheme.specs.Checks.{modulusFails, plaintextFails, smallFails, lengthFails, batchFails, errorLimitFails, wordFails};
+ghost use Rattle.scheme.specs.Checks.{modulusFails, plaintextFails, smallFails, errorLimitFails, wordFails};
 ghost use Rattle.scheme.specs.Checks.{wordsFail, magnitudesFail, signedFail, errorsFail, coefficientsFail, messageFails, messagesFail};
 ghost use Rattle.primus_reduce.specs.Ring.{meant, sizeOf};
+pub use check_lengths::batch_count;
+pub use check_lengths::batch_differs;
+pub use check_lengths::ciphertext_differs;
+pub use check_lengths::ciphertexts_differ;
+pub use check_lengths::length_differs;
+pub use check_lengths::lengths_differ;
+pub use check_lengths::runs_differ;
 use primus_reduce::Modulus;
 use primus_reduce::magnitude;
 
@@ -39,43 +45,6 @@ pub fn small_refused(t: u32, q: Modulus) -> bool
         Modulus::Native => false,
         Modulus::Explicit(q) => q <= t,
     }
-}
-
-// 9 to 12: `len` is not n.
-pub fn length_differs(len: usize, n: usize) -> bool
-    ensures { λ r. ⌜ r ≡ lengthFails len n ⌝ }
-{
-    len != n
-}
-
-// 12: two lengths, each for its own n.
-pub fn lengths_differ(len: usize, n: usize, second: usize, m: usize) -> bool
-    ensures { λ r. ⌜ r ≡ (lengthFails second m || lengthFails len n) ⌝ }
-{
-    (second != m) | (len != n)
-}
-
-// 10, 11: `len` is not n mask words and a body. No sum: it could overflow.
-pub fn ciphertext_differs(len: usize, n: usize) -> bool
-    ensures { λ r. ⌜ r ≡ lengthFails len (n + 1) ⌝ }
-{
-    if len == 0 {
-        return true;
-    }
-    len - 1 != n
-}
-
-// 9 to 12: `len` is not `count` runs of `width`. No product: it could overflow.
-pub fn runs_differ(len: usize, count: usize, width: usize) -> bool
-    ensures { λ r. ⌜ r ≡ lengthFails len (count * width) ⌝ }
-{
-    if width == 0 {
-        return len != 0;
-    }
-    if len % width != 0 {
-        return true;
-    }
-    len / width != count
 }
 
 // 13: E is above 1,048,576, or not below q.
@@ -174,34 +143,4 @@ pub fn messages_refused(t: u32, s: &[u32]) -> bool
     ensures { λ r. ⌜ r ≡ messagesFail t (now (s .entry)) ⌝ }
 {
     any_refused(s, t)
-}
-
-// 10: `len` is not a multiple of n + 1. No sum where it could overflow.
-pub fn batch_differs(len: usize, n: usize) -> bool
-    ensures { λ r. ⌜ r ≡ batchFails len n ⌝ }
-{
-    if len <= n {
-        return len != 0;
-    }
-    len % (n + 1) != 0
-}
-
-// The number of ciphertexts of n + 1 words that fit.
-pub fn batch_count(len: usize, n: usize) -> usize
-    ensures { λ r. ⌜ r ≡ len / (n + 1) ⌝ }
-{
-    if len <= n {
-        return 0;
-    }
-    len / (n + 1)
-}
-
-// 11: `len` is not `count` ciphertexts of n + 1 words.
-pub fn ciphertexts_differ(len: usize, count: usize, n: usize) -> bool
-    ensures { λ r. ⌜ r ≡ lengthFails len (count * (n + 1)) ⌝ }
-{
-    if batch_differs(len, n) {
-        return true;
-    }
-    batch_count(len, n) != count
 }

@@ -36,18 +36,12 @@ fn cut(
     e: &[i32],
     out: &mut [u32],
 ) -> Said {
-    let la = l.a;
-    let lb = l.b;
-    let lc = l.c;
-    let ld = l.d;
-    let le = l.e;
-    let lo = l.out;
-    if a.len() < la || b.len() < lb || c.len() < lc {
-        return said::nothing();
-    }
-    if d.len() < ld || e.len() < le || out.len() < lo {
-        return said::nothing();
-    }
+    let la = programs::at_most(l.a, a.len());
+    let lb = programs::at_most(l.b, b.len());
+    let lc = programs::at_most(l.c, c.len());
+    let ld = programs::at_most(l.d, d.len());
+    let le = programs::at_most(l.e, e.len());
+    let lo = programs::at_most(l.out, out.len());
     call(
         h,
         &a[0..la],
@@ -57,6 +51,11 @@ fn cut(
         &e[0..le],
         &mut out[0..lo],
     )
+}
+
+// There was room for the operands, and the call said what the record says.
+fn agrees(h: Head, l: Lengths, s: Said) -> bool {
+    record::fit(l) && s.refusal == h.refusal && s.value == h.answer
 }
 
 fn right(h: Head, l: Lengths, bytes: &[u8; 65536]) -> bool {
@@ -69,7 +68,7 @@ fn right(h: Head, l: Lengths, bytes: &[u8; 65536]) -> bool {
     let mut out = record::words(bytes, p.before);
     let after = record::words(bytes, p.after);
     let s = cut(h, l, &a, &b, &c, &d, &e, &mut out);
-    s.refusal == h.refusal && s.value == h.answer && programs::same(&out, &after, l.out)
+    agrees(h, l, s) & programs::same(&out, &after, l.out)
 }
 
 // The words of a record, read and compared.

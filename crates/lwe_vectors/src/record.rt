@@ -80,6 +80,11 @@ pub(crate) fn lengths_of(r: &[u8]) -> Lengths {
     }
 }
 
+// There is room for every operand.
+pub(crate) fn fit(l: Lengths) -> bool {
+    l.a <= 8192 && l.b <= 8192 && l.c <= 8192 && l.d <= 2048 && l.e <= 2048 && l.out <= 8192
+}
+
 // `count` words after `at`.
 fn past(at: usize, count: usize) -> usize {
     let two = std::num::wrapping_add_usize(count, count);

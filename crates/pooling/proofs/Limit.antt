@@ -20,9 +20,10 @@ use Rattle.lwe_tag.specs.declared.LweTag.{LweTag}
 use Rattle.lwe_tag.specs.Answers.{cap, tallyOf, tagRows}
 use Rattle.saved_head.specs.Head.{headOf}
 use Rattle.saved.specs.Layout.{fileWord, fileWords, savedTag}
-use Rattle.pooling.specs.declared.total.PoolParameters.{PoolParameters}
+use Rattle.pooling_refusals.specs.declared.total.PoolParameters.{PoolParameters}
 use Rattle.pooling_rows.specs.Rows.{placeTag, sumNumber, placeSum, placeFails, talliesFail, savedFail, addTallies, savedTallies}
-use Rattle.pooling.specs.Total.{beginRows, totalRows, fileRefusal, beginRefusal, totalRefusal, BeginsSaved, AddsSaved}
+use Rattle.pooling_refusals.specs.Rows.{beginRows, totalRows, fileRefusal, beginRefusal, totalRefusal}
+use Rattle.pooling.specs.Total.{BeginsSaved, AddsSaved}
 
 all-ext : (f g : ℕ → Bool) (xs : List ℕ) → ((i : ℕ) → f i ≡ g i) → allOf f xs ≡ allOf g xs
 unfolding allOf

@@ -17,8 +17,9 @@ use Rattle.scheme.proofs.Rows.{part-length}
 use Rattle.scheme.proofs.Lwe.{phase-sum}
 use Rattle.primus_reduce.specs.Ring.{sizeOf}
 use Rattle.saved.specs.Layout.{fileWord, fileWords}
-use Rattle.pooling.specs.declared.total.PoolParameters.{PoolParameters}
-use Rattle.pooling.specs.Total.{beginRefusal, totalRefusal, BeginsSaved, AddsSaved}
+use Rattle.pooling_refusals.specs.declared.total.PoolParameters.{PoolParameters}
+use Rattle.pooling_refusals.specs.Rows.{beginRefusal, totalRefusal}
+use Rattle.pooling.specs.Total.{BeginsSaved, AddsSaved}
 use Rattle.pooling.proofs.Places.{whole, positive}
 
 -- ---- a part of two lists that are taken together

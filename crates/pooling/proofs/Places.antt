@@ -27,10 +27,11 @@ use Rattle.lwe_tag.specs.Answers.{tagRows}
 use Rattle.primus_lattice.specs.Answers.{addRows}
 use Rattle.saved_head.specs.Head.{headOf}
 use Rattle.saved.specs.Layout.{fileWord, fileWords, savedTag}
-use Rattle.pooling.specs.declared.total.PoolParameters.{PoolParameters}
+use Rattle.pooling_refusals.specs.declared.total.PoolParameters.{PoolParameters}
 use Rattle.pooling_rows.specs.Rows.{tagFor, placeTag, sumNumber, placeSum, addTallies, wordsFrom, rowAt, replacedRow}
-use Rattle.pooling.specs.Total.{totalRows, totalRefusal}
-use Rattle.pooling.proofs.Laws.{place-ok, in-order}
+use Rattle.pooling_refusals.specs.Rows.{totalRows, totalRefusal}
+use Rattle.pooling_refusals.proofs.Laws.{in-order}
+use Rattle.pooling.proofs.Laws.{place-ok}
 
 -- ---- no number applies to a sum of two rows
 

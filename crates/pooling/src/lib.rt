@@ -2,6 +2,6 @@
 mod rows;
 mod total;
 
-pub use total::PoolParameters;
+pub use pooling_refusals::PoolParameters;
 pub use total::add_saved;
 pub use total::begin_saved;

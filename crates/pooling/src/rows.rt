@@ -5,8 +5,8 @@ ghost use Rattle.scheme.specs.Lwe.{addWords};
 ghost use Rattle.primus_reduce.specs.Ring.{sizeOf};
 ghost use Rattle.saved.specs.Layout.{fileWords};
 ghost use Rattle.pooling_rows.specs.Rows.{addTallies};
-ghost use Rattle.pooling.specs.Total.{totalRefusal};
-use crate::total::PoolParameters;
+ghost use Rattle.pooling_refusals.specs.Rows.{totalRefusal};
+use pooling_refusals::PoolParameters;
 use pooling_rows::add_row;
 
 // Adds each ciphertext of a file to that of its place, and their tallies.

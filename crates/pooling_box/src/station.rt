@@ -158,13 +158,10 @@ fn with_key(
     total: &mut [u32],
     sent: &mut [u32],
 ) -> usize {
-    let words = h.words as usize;
     let modulus = h.modulus;
-    let width = width_of(h.n);
-    let room = width_of(h.m);
-    if key.len() < words || total.len() < width || sent.len() < room {
-        return 0;
-    }
+    let words = programs::at_most(h.words as usize, key.len());
+    let width = programs::at_most(width_of(h.n), total.len());
+    let room = programs::at_most(width_of(h.m), sent.len());
     serve(
         params,
         modulus,

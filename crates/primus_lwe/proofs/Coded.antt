@@ -18,9 +18,10 @@ use Rattle.primus_reduce.specs.declared.modulus.Modulus.{Modulus}
 use Rattle.primus_encoding.specs.Answers.{encodeWord, encodeAnswer, decodeAnswer, orZero}
 use Rattle.primus_encoding.specs.declared.PlaintextEmbedding.{PlaintextEmbedding}
 use Rattle.primus_encoding.proofs.Laws.{encode-passed, decode-passed}
-use Rattle.primus_lwe.specs.declared.parameter.LweParameters.{LweParameters}
-use Rattle.primus_lwe.specs.declared.parameter.LweDecryptionParameters.{LweDecryptionParameters}
-use Rattle.primus_lwe.specs.Answers.{Codable, encoded, encodings, messageRows, decryptRows}
+use Rattle.lwe_parameters.specs.declared.parameter.LweParameters.{LweParameters}
+use Rattle.lwe_parameters.specs.declared.parameter.LweDecryptionParameters.{LweDecryptionParameters}
+use Rattle.primus_lwe.specs.Answers.{Codable, encoded, encodings}
+use Rattle.lwe_refusals.specs.Rows.{messageRows, decryptRows}
 use Rattle.primus_lwe.proofs.Laws.{Encryptable, lent-ok, Phasable, phase-ok}
 
 -- what the codec answers

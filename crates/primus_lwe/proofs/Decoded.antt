@@ -19,7 +19,7 @@ use Rattle.primus_reduce.specs.Ring.{sizeOf}
 use Rattle.primus_reduce.specs.declared.modulus.Modulus.{Modulus}
 use Rattle.primus_encoding.specs.Answers.{decodeSliceRows, DecodesSlice}
 use Rattle.primus_encoding.proofs.Laws.{in-place}
-use Rattle.primus_lwe.specs.declared.parameter.LweDecryptionParameters.{LweDecryptionParameters}
+use Rattle.lwe_parameters.specs.declared.parameter.LweDecryptionParameters.{LweDecryptionParameters}
 use Rattle.primus_lwe.specs.Answers.{Codable}
 
 all-below : (q : ℕ) (xs : List ℕ) → ((i : ℕ) → i < length xs → getD xs i 0 < q) → allOf (λ x. ltb x q) xs ≡ true

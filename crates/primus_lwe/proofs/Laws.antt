@@ -13,10 +13,12 @@ use Rattle.scheme.proofs.Checks.{modulus-ok, length-ok}
 use Rattle.scheme.proofs.Order.{passed, neither}
 use Rattle.primus_reduce.specs.Ring.{meant, sizeOf}
 use Rattle.primus_reduce.specs.declared.modulus.Modulus.{Modulus}
-use Rattle.primus_lwe.specs.declared.parameter.LweEncryptionParameters.{LweEncryptionParameters}
-use Rattle.primus_lwe.specs.declared.parameter.LwePhaseParameters.{LwePhaseParameters}
-use Rattle.primus_lwe.specs.declared.parameter.LweDecryptionParameters.{LweDecryptionParameters}
-use Rattle.primus_lwe.specs.Answers.{phaseParametersRows, decryptionParametersRows, judgedRows, encryptRows, phaseRows}
+use Rattle.lwe_parameters.specs.declared.parameter.LweEncryptionParameters.{LweEncryptionParameters}
+use Rattle.lwe_parameters.specs.declared.parameter.LwePhaseParameters.{LwePhaseParameters}
+use Rattle.lwe_parameters.specs.declared.parameter.LweDecryptionParameters.{LweDecryptionParameters}
+use Rattle.lwe_parameters.specs.Answers.{phaseParametersRows, decryptionParametersRows}
+use Rattle.lwe_parameters.specs.Answers.{judgedRows}
+use Rattle.lwe_refusals.specs.Rows.{encryptRows, phaseRows}
 
 -- ---- one function judges a call that takes t and one that does not
 

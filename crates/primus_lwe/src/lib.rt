@@ -1,13 +1,12 @@
 // LWE encryption over words of 32 bits. Random masks and errors are lent.
-mod parameter;
 mod secret_key;
 
-pub use parameter::LweDecryptionParameters;
-pub use parameter::LweEncryptionParameters;
-pub use parameter::LweEncryptionParametersAnswer;
-pub use parameter::LweParameters;
-pub use parameter::LweParametersAnswer;
-pub use parameter::LwePhaseParameters;
+pub use lwe_parameters::LweDecryptionParameters;
+pub use lwe_parameters::LweEncryptionParameters;
+pub use lwe_parameters::LweEncryptionParametersAnswer;
+pub use lwe_parameters::LweParameters;
+pub use lwe_parameters::LweParametersAnswer;
+pub use lwe_parameters::LwePhaseParameters;
 pub use secret_key::decrypt_message;
 pub use secret_key::decrypt_message_signed;
 pub use secret_key::decrypt_phase;

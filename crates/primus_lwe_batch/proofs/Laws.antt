@@ -15,13 +15,14 @@ use Rattle.scheme.proofs.Checks.{modulus-ok, length-ok}
 use Rattle.scheme.proofs.Order.{passed, neither}
 use Rattle.primus_reduce.specs.Ring.{meant, sizeOf}
 use Rattle.primus_reduce.specs.declared.modulus.Modulus.{Modulus}
-use Rattle.primus_lwe.specs.declared.parameter.LwePhaseParameters.{LwePhaseParameters}
-use Rattle.primus_lwe.specs.declared.parameter.LweDecryptionParameters.{LweDecryptionParameters}
-use Rattle.primus_lwe.specs.declared.parameter.LweParameters.{LweParameters}
+use Rattle.lwe_parameters.specs.declared.parameter.LwePhaseParameters.{LwePhaseParameters}
+use Rattle.lwe_parameters.specs.declared.parameter.LweDecryptionParameters.{LweDecryptionParameters}
+use Rattle.lwe_parameters.specs.declared.parameter.LweParameters.{LweParameters}
 use Rattle.primus_lwe.specs.Answers.{Codable}
 use Rattle.lwe_secret_key.specs.Runs.{Run}
 use Rattle.primus_lwe.proofs.Coded.{phase-below}
-use Rattle.primus_lwe_batch.specs.Answers.{encryptBatchRows, phasesRows, decryptBatchRows, batchPhase, Rowwise}
+use Rattle.lwe_batch_refusals.specs.Rows.{encryptBatchRows, phasesRows, decryptBatchRows}
+use Rattle.primus_lwe_batch.specs.Answers.{batchPhase, Rowwise}
 
 -- ---- encryption
 

@@ -1,38 +1,23 @@
--- What each call on a batch is judged by, and what it promises. Masks and errors are lent in order of the rows.
-use mathlib.Core.List.{List, [], _∷_, _++_}
+-- What each call on a batch promises. Masks and errors are lent in order of the rows.
+use mathlib.Core.List.{List}
 use mathlib.Core.Path.{_≡_}
 use Prim.Native.Nat.{ℕ, _+_, _*_, _/_, _<_}
 use lib.IntN.{ℤ}
 use lib.ListN.{length}
 use Rattle.scheme.specs.Numbers.{tabulate}
-use Rattle.scheme.specs.Lwe.{Key, secretOf, keyLength, signed, encryptedRows, phaseOf, rowOf}
+use Rattle.scheme.specs.Lwe.{Key, secretOf, signed, encryptedRows, phaseOf, rowOf}
 use Rattle.scheme.specs.Codec.{decode}
-use Rattle.scheme.specs.Checks.{Check, row, Writes, lengthFails, batchFails}
-use Rattle.scheme.specs.Checks.{wordsFail, keyFails, errorsFail, messagesFail}
+use Rattle.scheme.specs.Checks.{Writes}
 use Rattle.primus_reduce.specs.Ring.{sizeOf}
-use Rattle.primus_reduce.specs.declared.modulus.Modulus.{Modulus}
 use Rattle.primus_encoding.specs.declared.PlaintextEmbedding.{PlaintextEmbedding}
-use Rattle.primus_lwe.specs.declared.parameter.LwePhaseParameters.{LwePhaseParameters}
-use Rattle.primus_lwe.specs.declared.parameter.LweDecryptionParameters.{LweDecryptionParameters}
-use Rattle.primus_lwe.specs.declared.parameter.LweParameters.{LweParameters}
-use Rattle.primus_lwe.specs.Answers.{phaseParametersRows, decryptionParametersRows, parametersRows, encodings}
+use Rattle.lwe_parameters.specs.declared.parameter.LwePhaseParameters.{LwePhaseParameters}
+use Rattle.lwe_parameters.specs.declared.parameter.LweDecryptionParameters.{LweDecryptionParameters}
+use Rattle.lwe_parameters.specs.declared.parameter.LweParameters.{LweParameters}
+use Rattle.lwe_batch_refusals.specs.Rows.{encryptBatchRows, phasesRows, decryptBatchRows}
+use Rattle.primus_lwe.specs.Answers.{encodings}
 use Rattle.lwe_tag.specs.declared.LweAnswer.{LweAnswer}
 use Rattle.lwe_tag.specs.Answers.{tagFrom, WritesTagged}
 use Rattle.scheme.specs.Tally.{Fresh}
-
--- encryptions of the messages xs into `room` words
-abbrev pub encryptBatchRows : LweParameters → Key → List ℕ → List ℤ → List ℕ → ℕ → List Check
-encryptBatchRows P key masks es xs room =
-    parametersRows P
-    ++ row (lengthFails (keyLength key) (P .dimension .0)) 9
-    ∷ row (lengthFails room (length xs * (P .dimension .0 + 1))) 11
-    ∷ row (lengthFails (length masks) (length xs * P .dimension .0)) 12
-    ∷ row (lengthFails (length es) (length xs)) 12
-    ∷ row (keyFails (sizeOf (P .modulus)) key) 14
-    ∷ row (wordsFail (sizeOf (P .modulus)) masks) 14
-    ∷ row (errorsFail (P .«error_limit») es) 15
-    ∷ row (messagesFail (P .«plaintext_modulus») xs) 16
-    ∷ []
 
 -- each row is one encryption, with tally E
 pub record EncryptsBatch (P : LweParameters) (g : PlaintextEmbedding) (key : Key) (masks : List ℕ) (es : List ℤ)
@@ -43,22 +28,9 @@ pub record EncryptsBatch (P : LweParameters) (g : PlaintextEmbedding) (key : Key
       (encodings g P xs))
       before answer after
 
--- what phases and messages of the batch x into `room` words are judged by besides their parameters
-abbrev pub batchRows : Modulus → ℕ → Key → List ℕ → ℕ → List Check
-batchRows m n key x room =
-    row (lengthFails (keyLength key) n) 9
-    ∷ row (batchFails (length x) n) 10
-    ∷ row (lengthFails room (length x / (n + 1))) 11
-    ∷ row (keyFails (sizeOf m) key) 14
-    ∷ row (wordsFail (sizeOf m) x) 14
-    ∷ []
-
 -- the phase of ciphertext i
 abbrev pub batchPhase : ℕ → ℕ → Key → List ℕ → ℕ → ℕ
 batchPhase q n key x i = phaseOf q n (rowOf n x i) (secretOf key)
-
-abbrev pub phasesRows : LwePhaseParameters → Key → List ℕ → ℕ → List Check
-phasesRows P key x room = phaseParametersRows P ++ batchRows (P .modulus) (P .dimension .0) key x room
 
 pub record TakesPhases (P : LwePhaseParameters) (key : Key) (x before : List ℕ) (r : ℕ) (after : List ℕ)
     : Type 0 where
@@ -66,9 +38,6 @@ pub record TakesPhases (P : LwePhaseParameters) (key : Key) (x before : List ℕ
       Writes (phasesRows P key x (length before))
       (tabulate (length x / (P .dimension .0 + 1)) (batchPhase (sizeOf (P .modulus)) (P .dimension .0) key x))
       before r after
-
-abbrev pub decryptBatchRows : LweDecryptionParameters → Key → List ℕ → ℕ → List Check
-decryptBatchRows P key x room = decryptionParametersRows P ++ batchRows (P .modulus) (P .dimension .0) key x room
 
 pub record DecryptsBatch (P : LweDecryptionParameters) (key : Key) (x before : List ℕ) (r : ℕ) (after : List ℕ)
     : Type 0 where

@@ -1,6 +1,5 @@
 // Batches of LWE ciphertexts under a secret key, one after the other. Random masks and errors are lent.
 mod message_batch;
-mod sizes;
 
 pub use message_batch::decrypt_message_batch_to;
 pub use message_batch::decrypt_phase_batch_to;

@@ -1,19 +1,20 @@
 // Messages and phases of a batch.
 ghost use mathlib.Core.Path.{_≡_};
 ghost use mathlib.Core.Bool.{false};
-ghost use mathlib.Core.List.{_++_};
 ghost use Prim.Native.Nat.{_+_, _*_, _<_, _≤_};
 ghost use lib.ListN.{length};
 ghost use Rattle.scheme.specs.Numbers.{tabulate};
 ghost use Rattle.scheme.specs.Lwe.{Words, words, signed, encryptedRows};
-ghost use Rattle.scheme.specs.Checks.{refusal, messagesFail};
+ghost use Rattle.scheme.specs.Checks.{messagesFail};
 ghost use Rattle.primus_reduce.specs.Ring.{sizeOf};
-ghost use Rattle.primus_lwe.specs.Answers.{judgedRows, Codable, encodings};
+ghost use Rattle.primus_lwe.specs.Answers.{Codable, encodings};
 ghost use Rattle.lwe_secret_key.specs.Runs.{Run};
-ghost use Rattle.primus_lwe_batch.specs.Answers.{encryptBatchRows, EncryptsBatch, Rowwise, batchPhase};
-ghost use Rattle.primus_lwe_batch.specs.Answers.{batchRows, TakesPhases, DecryptsBatch};
-use crate::sizes;
-use check_order::Values;
+ghost use Rattle.primus_lwe_batch.specs.Answers.{EncryptsBatch, Rowwise, batchPhase, TakesPhases, DecryptsBatch};
+use lwe_batch_refusals::decrypt_refusal;
+use lwe_batch_refusals::encrypt_refusal;
+use lwe_parameters::LweDecryptionParameters;
+use lwe_parameters::LweParameters;
+use lwe_parameters::LwePhaseParameters;
 use lwe_secret_key::KeyForm;
 use lwe_secret_key::encrypt_row;
 use lwe_secret_key::phase;
@@ -22,9 +23,6 @@ use lwe_tag::LweTag;
 use primus_encoding::PlaintextEmbedding;
 use primus_encoding::RoundedCodec;
 use primus_encoding::encode_or_zero;
-use primus_lwe::LweDecryptionParameters;
-use primus_lwe::LweParameters;
-use primus_lwe::LwePhaseParameters;
 use primus_reduce::Modulus;
 
 // A row for each message.
@@ -65,35 +63,6 @@ fn write_messages(
         );
         i += 1;
     }
-}
-
-fn encrypt_refusal(
-    params: LweParameters,
-    secret: &[u32],
-    masks: &[u32],
-    errors: &[i32],
-    messages: &[u32],
-    room: usize,
-) -> u32
-    ensures { λ r. ⌜ r ≡ refusal (encryptBatchRows params (Words (now (secret .entry))) (now (masks .entry))
-        (now (errors .entry)) (now (messages .entry)) room) ⌝ }
-{
-    let modulus = params.modulus;
-    let dimension = params.dimension;
-    let count = messages.len();
-    let mut s = params.sizes();
-    s.key = dimension.differs(secret.len());
-    s.output = sizes::output_differs(room, count, dimension);
-    s.lent = sizes::lent_differs(masks.len(), errors.len(), count, dimension);
-    let r = s.first();
-    if r != 0 {
-        return r;
-    }
-    let mut v = Values::NONE;
-    v.word = checks::both_refused(modulus, secret, masks);
-    v.error = checks::errors_refused(params.error_limit, errors);
-    v.message = checks::messages_refused(params.plaintext_modulus, messages);
-    v.first()
 }
 
 // An encryption of encode(m) for each message, if any; each row has tally E. Refuses by 2, 6, 7, 8, 9, 11, 12, 13, 14, 15, 16.
@@ -141,36 +110,6 @@ fn row_phases(out: &mut [u32], input: &[u32], secret: &[u32], modulus: Modulus)
         out[i] = row_phase(input, secret, i, modulus);
         i += 1;
     }
-}
-
-// What refuses phases or messages of a batch; a call without t gives false for 7 and 8.
-fn decrypt_refusal(
-    params: LwePhaseParameters,
-    plaintext: bool,
-    small: bool,
-    secret: &[u32],
-    input: &[u32],
-    room: usize,
-) -> u32
-    ensures { λ r. ⌜ r ≡ refusal (judgedRows plaintext small params
-        ++ batchRows (params .modulus) (params .dimension .0) (Words (now (secret .entry))) (now (input .entry))
-        room) ⌝ }
-{
-    let modulus = params.modulus;
-    let dimension = params.dimension;
-    let mut s = params.sizes();
-    s.plaintext = plaintext;
-    s.small = small;
-    s.key = dimension.differs(secret.len());
-    s.input = sizes::input_differs(input.len(), dimension);
-    s.output = sizes::count_differs(room, input.len(), dimension);
-    let r = s.first();
-    if r != 0 {
-        return r;
-    }
-    let mut v = Values::NONE;
-    v.word = checks::both_refused(modulus, secret, input);
-    v.first()
 }
 
 // The phase of each ciphertext. Refuses by 2, 6, 9, 10, 11, 14.

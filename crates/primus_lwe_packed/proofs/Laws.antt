@@ -1,14 +1,13 @@
--- Laws of packed calls: bodies of the same plaintexts, lengths, and what the checks of a call leave.
+-- Laws of packed calls: bodies of the same plaintexts, and what the checks of a call leave.
 -- Assumes nothing.
-use mathlib.Core.Path.{_≡_, refl, sym, ap, ap₂}
-use mathlib.Core.Bool.{Bool, true, false, not, _||_}
+use mathlib.Core.Path.{_≡_, refl, ap, ap₂}
+use mathlib.Core.Bool.{false, _||_}
 use mathlib.Core.List.{List, _++_}
 use Prim.Native.Nat.{ℕ, _+_, _-_, _≤_, _<_}
 use native.Mathlib.Omega.{arith}
-use lib.Dec.{eqb}
 use lib.IntN.{ℤ, pos, _+ℤ_, _-ℤ_}
 use lib.ListN.{length, getD}
-use borrow.Author.Tests.{eqb-true, eqb-false, eq-eqb, ne-eqb, ltb-false}
+use borrow.Author.Tests.{ltb-false}
 use Rattle.scheme.specs.Numbers.{residue}
 use Rattle.scheme.specs.Lwe.{words, signed, rotated, packed, packedPhase}
 use Rattle.scheme.specs.Checks.{refusal, modulusFails, lengthFails, countFails, packedFails}
@@ -19,39 +18,21 @@ use Rattle.scheme.proofs.Order.{passed, neither}
 use Rattle.primus_reduce.specs.Ring.{meant, sizeOf}
 use Rattle.primus_reduce.specs.declared.modulus.Modulus.{Modulus}
 use Rattle.primus_encoding.specs.declared.PlaintextEmbedding.{PlaintextEmbedding}
-use Rattle.primus_lwe.specs.declared.parameter.LweEncryptionParameters.{LweEncryptionParameters}
-use Rattle.primus_lwe.specs.declared.parameter.LweParameters.{LweParameters}
-use Rattle.primus_lwe.specs.declared.parameter.LwePhaseParameters.{LwePhaseParameters}
-use Rattle.primus_lwe.specs.declared.parameter.LweDecryptionParameters.{LweDecryptionParameters}
+use Rattle.lwe_parameters.specs.declared.parameter.LweEncryptionParameters.{LweEncryptionParameters}
+use Rattle.lwe_parameters.specs.declared.parameter.LweParameters.{LweParameters}
+use Rattle.lwe_parameters.specs.declared.parameter.LwePhaseParameters.{LwePhaseParameters}
+use Rattle.lwe_parameters.specs.declared.parameter.LweDecryptionParameters.{LweDecryptionParameters}
 use Rattle.primus_lwe.specs.Answers.{Codable, encodings}
 use Rattle.primus_lwe.proofs.Coded.{encoded-at}
 use Rattle.lwe_packing.specs.declared.packed.Packing.the-variants.{Messages}
 use Rattle.lwe_packing.specs.Packing.{Packable, plaintexts}
-use Rattle.primus_lwe_packed.specs.Answers.{packedRows, packedMessageRows, packedPhaseRows, packedDecryptRows}
+use Rattle.lwe_packed_refusals.specs.Rows.{packedRows, packedMessageRows, packedPhaseRows, packedDecryptRows}
 
 -- what a call is given is not always what it names: bodies of other plaintexts, where they are the same
 packed-ext : (q n m c : ℕ) (a : List ℕ) (s e p o : ℕ → ℤ) → n ≡ m → ((i : ℕ) → i < c → p i ≡ o i) → packed q n c a s e p ≡ packed q m c a s e o
 unfolding packed
 packed-ext q n m c a s e p o k h =
     ap (λ x. a ++ x) (tabulate-ext c _ _ (λ i l. ap₂ (λ (n : ℕ) (z : ℤ). residue (rotated n a s i +ℤ e i +ℤ z) q) k (h i l)))
-
--- ---- lengths
-
-pub room-short : (room n c : ℕ) {m : ℕ} → n ≡ m → room < n → true ≡ lengthFails room (m + c)
-room-short room n c e h = sym (ap not (ne-eqb room _ (λ z. omega arith)))
-
-pub room-rest : (room n c : ℕ) {m : ℕ} → n ≡ m → n ≤ room → not (eqb (room - n) c) ≡ lengthFails room (m + c)
-room-rest room n c {m} k h = ap not (go (eqb (room - n) c) refl)
-  where
-    go : (b : Bool) → eqb (room - n) c ≡ b → b ≡ eqb room (m + c)
-    go true e = sym (eq-eqb room (m + c) (omega (arith, eqb-true (room - n) c e)))
-    go false e = sym (ne-eqb room (m + c) (λ z. eqb-false (room - n) c e (omega arith)))
-
-pub no-bodies : (room n len : ℕ) {m : ℕ} → n ≡ m → len < n → lengthFails room 0 ≡ lengthFails room (len - m)
-no-bodies room n len {m} e h = ap (lengthFails room) (none n e h)
-  where
-    none : (n : ℕ) → n ≡ m → len < n → 0 ≡ len - m
-    none n e h = omega arith
 
 -- a phase is a word
 pub packed-below : (q n : ℕ) (x : List ℕ) (s : ℕ → ℤ) (i : ℕ) → 0 < q → packedPhase q n x s i < q

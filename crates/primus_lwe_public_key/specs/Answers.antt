@@ -8,9 +8,10 @@ use Rattle.scheme.specs.Checks.{Check, row, Writes, lengthFails, wordFails, wor
 use Rattle.scheme.specs.Checks.{errorsFail, coefficientsFail, messageFails}
 use Rattle.primus_reduce.specs.Ring.{sizeOf}
 use Rattle.primus_encoding.specs.declared.PlaintextEmbedding.{PlaintextEmbedding}
-use Rattle.primus_lwe.specs.declared.parameter.LweEncryptionParameters.{LweEncryptionParameters}
-use Rattle.primus_lwe.specs.declared.parameter.LweParameters.{LweParameters}
-use Rattle.primus_lwe.specs.Answers.{encryptionParametersRows, parametersRows, encoded}
+use Rattle.lwe_parameters.specs.declared.parameter.LweEncryptionParameters.{LweEncryptionParameters}
+use Rattle.lwe_parameters.specs.declared.parameter.LweParameters.{LweParameters}
+use Rattle.lwe_parameters.specs.Answers.{encryptionParametersRows, parametersRows}
+use Rattle.primus_lwe.specs.Answers.{encoded}
 use Rattle.lwe_tag.specs.declared.LweAnswer.{LweAnswer}
 use Rattle.lwe_tag.specs.Answers.{tagFrom, WritesTagged}
 use Rattle.scheme.specs.Tally.{PublicKey}

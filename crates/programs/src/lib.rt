@@ -64,6 +64,13 @@ pub fn modulus_at(record: &[u8], at: usize) -> Modulus {
     Modulus::Explicit(little_endian::u32_at(record, std::num::wrapping_add_usize(at, 1)))
 }
 
+// The smaller of two lengths: a part of so many words is there, and the call that takes it judges whether they are enough.
+pub fn at_most(len: usize, most: usize) -> usize
+    ensures { λ r. ⌜ r ≤ most ⌝ }
+{
+    if len < most { len } else { most }
+}
+
 // The first `count` words are the same; there are that many in both.
 pub fn same(x: &[u32], y: &[u32], count: usize) -> bool {
     if x.len() < count || y.len() < count {

@@ -36,12 +36,10 @@ fn open(h: Head, secret: &[u32], words: &[u32], out: &mut [u32]) -> u32 {
 
 // The rooms are cut to the lengths that the heads give.
 fn open_in(h: Head, n: usize, secret: &[u32], words: &[u32], out: &mut [u32]) -> u32 {
-    let len = h.words as usize;
-    let count = h.count as usize;
-    if secret.len() < n || words.len() < len || out.len() < count {
-        return DIFFERS;
-    }
-    open(h, &secret[0..n], &words[0..len], &mut out[0..count])
+    let a = programs::at_most(n, secret.len());
+    let b = programs::at_most(h.words as usize, words.len());
+    let c = programs::at_most(h.count as usize, out.len());
+    open(h, &secret[0..a], &words[0..b], &mut out[0..c])
 }
 
 // The message of the ciphertext at `at`, or 2^32 − 1, which is none.
@@ -96,22 +94,32 @@ fn open_signed(h: Head, n: usize, secret: &[i32], words: &[u32], out: &mut [u32]
     }
 }
 
+// What refuses a file, the messages saved beside it, or those that it opens to.
+fn told_refusal(l: Loaded, beside: Loaded, refusal: u32, same: bool) -> u32 {
+    let h = l.head;
+    let b = beside.head;
+    let r = files::first(files::first(l.refusal, beside.refusal), refusal);
+    let r = files::first(r, files::unless(b.kind == 7 && b.words == h.count));
+    files::first(r, files::unless(same))
+}
+
 // The line of a file whose messages are in `out`: they are compared with those saved beside it.
 fn tell(folder: &[u8], name: &[u8], l: Loaded, refusal: u32, out: &[u32]) {
     let h = l.head;
     let count = h.count as usize;
     let mut told = [0u32; 8192];
     let beside = files::load(folder, name, b".opens", &mut told);
-    let b = beside.head;
-    let sum = beside.checksum as u64;
+    let same = programs::same(out, &told, count);
+    let r = told_refusal(l, beside, refusal, same);
     files::begin(folder, name, l);
-    let r = files::first(files::first(l.refusal, beside.refusal), refusal);
-    let r = files::first(r, files::unless(b.kind == 7 && b.words == h.count));
-    let r = files::first(r, files::unless(programs::same(out, &told, count)));
-    programs::print(b"", count as u64);
-    programs::print(b" messages, checksum ", sum);
-    programs::write(b": ");
+    tell_messages(count as u64, beside.checksum as u64);
     files::end(b"as saved", r);
+}
+
+fn tell_messages(count: u64, checksum: u64) {
+    programs::print(b"", count);
+    programs::print(b" messages, checksum ", checksum);
+    programs::write(b": ");
 }
 
 pub(crate) fn opened(folder: &[u8], name: &[u8], secret: &[u8]) {

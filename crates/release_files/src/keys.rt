@@ -8,6 +8,7 @@ use primus_lattice::LweDimension;
 use primus_lattice::LweDimensionAnswer;
 use primus_lwe::LwePhaseParameters;
 use primus_lwe_batch::decrypt_phase_batch_to;
+use saved_files::Loaded;
 use saved_head::Head;
 
 fn secret_refusal(h: Head, kind: u32) -> u32 {
@@ -75,17 +76,15 @@ fn phases(h: Head, secret: &[u32], key: &[u32], out: &mut [u32]) -> u32 {
 
 // Its n rows are encryptions of 0 under the secret.
 fn public_refusal(h: Head, secret: &[u32], key: &[u32], out: &mut [u32]) -> u32 {
-    let n = h.n;
-    let len = h.words as usize;
     let modulus = h.modulus;
-    if secret.len() < n || key.len() < len || out.len() < n {
-        return DIFFERS;
-    }
-    let r = phases(h, &secret[0..n], &key[0..len], &mut out[0..n]);
+    let a = programs::at_most(h.n, secret.len());
+    let b = programs::at_most(h.words as usize, key.len());
+    let c = programs::at_most(h.n, out.len());
+    let r = phases(h, &secret[0..a], &key[0..b], &mut out[0..c]);
     if r != 0 {
         return r;
     }
-    near(out, n, h.error_limit, modulus.size())
+    near(out, h.n, h.error_limit, modulus.size())
 }
 
 pub(crate) fn public_key(folder: &[u8], name: &[u8], secret: &[u8]) {
@@ -119,13 +118,28 @@ fn switch_refusal(
     input: &[u32],
     out: &mut [u32],
 ) -> u32 {
-    let a = h.words as usize;
-    let b = from.words as usize;
-    let c = to.words as usize;
-    if key.len() < a || input.len() < b || out.len() < c {
-        return DIFFERS;
-    }
+    let a = programs::at_most(h.words as usize, key.len());
+    let b = programs::at_most(from.words as usize, input.len());
+    let c = programs::at_most(to.words as usize, out.len());
     switch(h, &key[0..a], &input[0..b], &mut out[0..c])
+}
+
+// What refuses the key, or its switch of the saved input; the output is compared with the saved one.
+fn switched_refusal(
+    l: Loaded,
+    x: Loaded,
+    y: Loaded,
+    key: &[u32],
+    input: &[u32],
+    output: &[u32],
+    out: &mut [u32],
+) -> u32 {
+    let h = l.head;
+    let to = y.head;
+    let r = switch_refusal(h, x.head, to, key, input, out);
+    let equal = programs::same(out, output, to.words as usize);
+    let r = files::first(files::first(l.refusal, r), files::unless(equal));
+    files::first(r, files::unless(h.kind == 3))
 }
 
 pub(crate) fn switching_key(folder: &[u8], name: &[u8], from: &[u8], to: &[u8]) {
@@ -136,14 +150,7 @@ pub(crate) fn switching_key(folder: &[u8], name: &[u8], from: &[u8], to: &[u8]) 
     let l = files::load(folder, name, b"", &mut key);
     let x = files::load(folder, from, b"", &mut input);
     let y = files::load(folder, to, b"", &mut output);
-    let h = l.head;
-    let y_head = y.head;
-    let r = switch_refusal(h, x.head, y_head, &key, &input, &mut out);
-    let equal = programs::same(&out, &output, y_head.words as usize);
-    let r = files::first(files::first(l.refusal, r), files::unless(equal));
+    let r = switched_refusal(l, x, y, &key, &input, &output, &mut out);
     files::begin(folder, name, l);
-    files::end(
-        b"switches as saved",
-        files::first(r, files::unless(h.kind == 3)),
-    );
+    files::end(b"switches as saved", r);
 }

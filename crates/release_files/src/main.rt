@@ -4,17 +4,23 @@ mod ciphertexts;
 mod files;
 mod keys;
 
-// The files of one modulus. A key is tried on what it was made for.
-fn setting(folder: &[u8]) {
+// The keys. Each is tried on what it was made for.
+fn tried(folder: &[u8]) {
     keys::secret(folder, b"secret");
     keys::secret(folder, b"group_secret");
     keys::signed_secret(folder, b"signed_secret");
     keys::public_key(folder, b"public_key", b"secret");
+}
+
+fn opened(folder: &[u8]) {
     ciphertexts::opened(folder, b"fresh", b"secret");
     ciphertexts::opened(folder, b"summed", b"secret");
     ciphertexts::opened(folder, b"packed", b"secret");
     ciphertexts::opened(folder, b"public", b"secret");
     ciphertexts::opened_signed(folder, b"signed_fresh", b"signed_secret");
+}
+
+fn switched(folder: &[u8]) {
     keys::switching_key(folder, b"switching_key", b"summed", b"switched");
     keys::switching_key(
         folder,
@@ -24,6 +30,13 @@ fn setting(folder: &[u8]) {
     );
     ciphertexts::opened(folder, b"switched", b"group_secret");
     ciphertexts::opened(folder, b"signed_switched", b"group_secret");
+}
+
+// The files of one modulus.
+fn setting(folder: &[u8]) {
+    tried(folder);
+    opened(folder);
+    switched(folder);
 }
 
 fn main() {

@@ -11,17 +11,17 @@ use Rattle.primus_encoding.specs.declared.PlaintextEmbedding.{PlaintextEmbeddin
 use Rattle.primus_encoding.specs.Answers.{EncodesSlice, DecodesSlice}
 use Rattle.scheme.specs.Lwe.{Key}
 use Rattle.checks.specs.declared.WordAnswer.{WordAnswer}
-use Rattle.primus_lwe.specs.declared.parameter.LweEncryptionParameters.{LweEncryptionParameters}
-use Rattle.primus_lwe.specs.declared.parameter.LweParameters.{LweParameters}
-use Rattle.primus_lwe.specs.declared.parameter.LwePhaseParameters.{LwePhaseParameters}
-use Rattle.primus_lwe.specs.declared.parameter.LweDecryptionParameters.{LweDecryptionParameters}
+use Rattle.lwe_parameters.specs.declared.parameter.LweEncryptionParameters.{LweEncryptionParameters}
+use Rattle.lwe_parameters.specs.declared.parameter.LweParameters.{LweParameters}
+use Rattle.lwe_parameters.specs.declared.parameter.LwePhaseParameters.{LwePhaseParameters}
+use Rattle.lwe_parameters.specs.declared.parameter.LweDecryptionParameters.{LweDecryptionParameters}
 use Rattle.lwe_tag.specs.declared.LweAnswer.{LweAnswer}
 use Rattle.primus_lwe.specs.Answers.{Encrypts, EncryptsMessage, TakesPhase, Decrypts}
 use Rattle.primus_lwe_batch.specs.Answers.{EncryptsBatch, TakesPhases, DecryptsBatch}
 use Rattle.key_switch_key.specs.declared.parameters.LweKeySwitchingParameters.{LweKeySwitchingParameters}
 use Rattle.key_switch_key.specs.Answers.{Generates}
 use Rattle.key_switch.specs.Answers.{Switches, SwitchesBatch}
-use Rattle.c_numbers.specs.Bases.{WritesBasis, WritesReading}
+use Rattle.c_basis.specs.Bases.{WritesBasis, WritesReading}
 
 module _ {b d : ApproxSignedBasis} (e : b ≡ d) {r : ℕ} where
   pub basis-of : {before after : List ℕ} → WritesBasis b before r after → WritesBasis d before r after

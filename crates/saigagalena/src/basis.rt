@@ -1,7 +1,7 @@
 // The basis, readings and digits, for C.
 ghost use Rattle.primus_reduce.specs.Ring.{modulusFor};
 ghost use Rattle.primus_decompose.specs.Answers.{basisWith, DecomposesSlice};
-ghost use Rattle.c_numbers.specs.Bases.{WritesBasis, WritesReading};
+ghost use Rattle.c_basis.specs.Bases.{WritesBasis, WritesReading};
 use c_numbers::basis_for;
 use c_numbers::write_basis;
 use c_numbers::write_reading;

@@ -4,7 +4,7 @@ ghost use Rattle.primus_lwe.specs.Answers.{TakesPhase, Decrypts};
 ghost use Rattle.primus_lwe_batch.specs.Answers.{TakesPhases, DecryptsBatch};
 ghost use Rattle.primus_lwe_packed.specs.Answers.{TakesPackedPhases, DecryptsPacked};
 ghost use Rattle.c_numbers.specs.Numbers.{phasesWith, decryptionWith};
-ghost use Rattle.c_numbers.specs.Service.{Tells, wordNumber};
+ghost use Rattle.c_answers.specs.Service.{Tells, wordNumber};
 
 // b − ⟨a, s⟩ modulo q, or 2^32 plus the first of 2, 6, 9, 10, 14 that applies.
 #[no_mangle]

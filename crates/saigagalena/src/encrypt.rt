@@ -4,7 +4,7 @@ ghost use Rattle.primus_lwe.specs.Answers.{Encrypts, EncryptsMessage};
 ghost use Rattle.primus_lwe_batch.specs.Answers.{EncryptsBatch};
 ghost use Rattle.primus_lwe_packed.specs.Answers.{EncryptsPacked, EncryptsPackedMessages};
 ghost use Rattle.c_numbers.specs.Numbers.{embeddingFor, encryptionWith, messagesWith};
-ghost use Rattle.c_numbers.specs.Service.{Tells, outcomeOf};
+ghost use Rattle.c_answers.specs.Service.{Tells, outcomeOf};
 use c_numbers::LweOutcome;
 
 // b = ⟨a, s⟩ + e + p modulo q; out holds (a, b), with tally E. Refuses by 2, 6, 9, 11, 12, 13, 14, 15.

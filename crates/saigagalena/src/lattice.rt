@@ -4,7 +4,7 @@ ghost use Rattle.primus_reduce.specs.Ring.{modulusFor};
 ghost use Rattle.lwe_tag.specs.Answers.{markAnswer};
 ghost use Rattle.primus_lattice.specs.Answers.{given, Adds};
 ghost use Rattle.lwe_samples.specs.Answers.{Extracts};
-ghost use Rattle.c_numbers.specs.Service.{Tells, outcomeOf, markNumber};
+ghost use Rattle.c_answers.specs.Service.{Tells, outcomeOf, markNumber};
 use c_numbers::LweOutcome;
 use lwe_samples::extract_lwe_at;
 use primus_lattice::LweDimension;

@@ -5,7 +5,7 @@ ghost use Rattle.checks.specs.Answers.{wordAnswer};
 ghost use Rattle.key_switch_key.specs.Answers.{parameterRows, keyWords};
 ghost use Rattle.c_numbers.specs.Numbers.{switchingWith};
 ghost use Rattle.c_numbers.specs.Lengths.{packedRows};
-ghost use Rattle.c_numbers.specs.Service.{wordNumber};
+ghost use Rattle.c_answers.specs.Service.{wordNumber};
 
 // The release that this is: later ones open what it saves.
 #[no_mangle]

@@ -2,7 +2,7 @@
 ghost use Rattle.scheme.specs.Lwe.{Words, Signed};
 ghost use Rattle.primus_lwe_public_key.specs.Answers.{GeneratesPublicKey, EncryptsPublic, EncryptsPublicMessage};
 ghost use Rattle.c_numbers.specs.Numbers.{embeddingFor, encryptionWith, messagesWith};
-ghost use Rattle.c_numbers.specs.Service.{Tells, outcomeOf};
+ghost use Rattle.c_answers.specs.Service.{Tells, outcomeOf};
 use c_numbers::LweOutcome;
 use primus_lwe_public_key::LwePublicKey;
 

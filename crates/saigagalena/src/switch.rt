@@ -3,7 +3,7 @@ ghost use Rattle.scheme.specs.Lwe.{Words, Signed};
 ghost use Rattle.key_switch_key.specs.Answers.{Generates};
 ghost use Rattle.key_switch.specs.Answers.{Switches, SwitchesBatch};
 ghost use Rattle.c_numbers.specs.Numbers.{switchingWith};
-ghost use Rattle.c_numbers.specs.Service.{Tells, outcomeOf};
+ghost use Rattle.c_answers.specs.Service.{Tells, outcomeOf};
 use c_numbers::LweOutcome;
 use key_switch_key::LweKeySwitchingKey;
 

@@ -22,14 +22,17 @@ use Rattle.primus_encoding.specs.declared.PlaintextEmbedding.{PlaintextEmbeddin
 use Rattle.primus_lattice.specs.declared.dimension.LweDimension.{LweDimension}
 use Rattle.lwe_tag.specs.declared.LweTag.{LweTag}
 use Rattle.lwe_tag.specs.declared.LweAnswer.the-variants.{Written}
-use Rattle.primus_lwe.specs.declared.parameter.LweEncryptionParameters.{LweEncryptionParameters}
-use Rattle.primus_lwe.specs.declared.parameter.LweParameters.{LweParameters}
-use Rattle.primus_lwe.specs.Answers.{encryptRows, messageRows, encoded, encodings, Encrypts, EncryptsMessage}
+use Rattle.lwe_parameters.specs.declared.parameter.LweEncryptionParameters.{LweEncryptionParameters}
+use Rattle.lwe_parameters.specs.declared.parameter.LweParameters.{LweParameters}
+use Rattle.lwe_refusals.specs.Rows.{encryptRows, messageRows}
+use Rattle.primus_lwe.specs.Answers.{encoded, encodings, Encrypts, EncryptsMessage}
 use Rattle.primus_lwe.proofs.Laws.{encryptable}
 use Rattle.primus_lwe.proofs.Coded.{messageable}
-use Rattle.primus_lwe_batch.specs.Answers.{encryptBatchRows, EncryptsBatch}
+use Rattle.lwe_batch_refusals.specs.Rows.{encryptBatchRows}
+use Rattle.primus_lwe_batch.specs.Answers.{EncryptsBatch}
 use Rattle.primus_lwe_batch.proofs.Laws.{batchable}
-use Rattle.primus_lwe_packed.specs.Answers.{packedRows, packedMessageRows, EncryptsPacked, EncryptsPackedMessages}
+use Rattle.lwe_packed_refusals.specs.Rows.{packedRows, packedMessageRows}
+use Rattle.primus_lwe_packed.specs.Answers.{EncryptsPacked, EncryptsPackedMessages}
 use Rattle.primus_lwe_packed.proofs.Laws.{packable, packable-messages}
 use Rattle.primus_lwe_public_key.specs.Answers.{generateRows, GeneratesPublicKey, EncryptsPublic, EncryptsPublicMessage}
 use Rattle.primus_lwe_public_key.proofs.Laws.{generable}

@@ -39,12 +39,14 @@ use Rattle.lwe_tag.specs.declared.LweTag.{LweTag}
 use Rattle.lwe_tag.specs.declared.LweAnswer.the-variants.{Written}
 use Rattle.lwe_tag.specs.declared.MarkAnswer.the-variants as M
 use Rattle.lwe_tag.specs.Answers.{tallyOf, tagFrom, noTally, markRows, markAnswer}
-use Rattle.primus_lwe.specs.declared.parameter.LweEncryptionParameters.{LweEncryptionParameters}
-use Rattle.primus_lwe.specs.declared.parameter.LweParameters.{LweParameters}
-use Rattle.primus_lwe.specs.Answers.{encryptRows, phaseRows, messageRows, decryptRows, encoded, encodings, Encrypts, TakesPhase, EncryptsMessage, Decrypts}
+use Rattle.lwe_parameters.specs.declared.parameter.LweEncryptionParameters.{LweEncryptionParameters}
+use Rattle.lwe_parameters.specs.declared.parameter.LweParameters.{LweParameters}
+use Rattle.lwe_refusals.specs.Rows.{encryptRows, phaseRows, messageRows, decryptRows}
+use Rattle.primus_lwe.specs.Answers.{encoded, encodings, Encrypts, TakesPhase, EncryptsMessage, Decrypts}
 use Rattle.primus_lwe.proofs.Laws.{encryptable}
 use Rattle.primus_lwe.proofs.Coded.{messageable, phase-below}
-use Rattle.primus_lwe_batch.specs.Answers.{encryptBatchRows, decryptBatchRows, batchPhase, EncryptsBatch, DecryptsBatch}
+use Rattle.lwe_batch_refusals.specs.Rows.{encryptBatchRows, decryptBatchRows}
+use Rattle.primus_lwe_batch.specs.Answers.{batchPhase, EncryptsBatch, DecryptsBatch}
 use Rattle.theorems.specs.Phases.{HasPhase}
 use Rattle.theorems.specs.Opened.{phasesOf, decryptionOf}
 use Rattle.theorems.proofs.Calls.{written, settled, told, words-fit, length-fit}

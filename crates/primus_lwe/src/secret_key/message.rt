@@ -1,50 +1,18 @@
 // Messages below t: encoded and encrypted, and decrypted again.
-ghost use mathlib.Core.Path.{_≡_};
 ghost use Rattle.scheme.specs.Lwe.{Words, Signed};
-ghost use Rattle.scheme.specs.Checks.{refusal};
 ghost use Rattle.lwe_secret_key.specs.Key.{keyOf};
-ghost use Rattle.primus_lwe.specs.Answers.{messageRows, EncryptsMessage, Decrypts};
-use crate::parameter::LweDecryptionParameters;
-use crate::parameter::LweParameters;
-use crate::secret_key::borrowed;
-use check_order::Values;
+ghost use Rattle.primus_lwe.specs.Answers.{EncryptsMessage, Decrypts};
 use checks::WordAnswer;
+use lwe_parameters::LweDecryptionParameters;
+use lwe_parameters::LweParameters;
+use lwe_refusals::decrypt_refusal;
+use lwe_refusals::message_refusal;
 use lwe_secret_key::KeyForm;
 use lwe_tag::LweAnswer;
 use lwe_tag::LweTag;
 use primus_encoding::PlaintextEmbedding;
 use primus_encoding::decode_or_zero;
 use primus_encoding::encode_or_zero;
-
-fn message_refusal(
-    params: LweParameters,
-    form: KeyForm,
-    words: &[u32],
-    signed: &[i32],
-    mask: &[u32],
-    errors: &[i32],
-    message: u32,
-    room: usize,
-) -> u32
-    ensures { λ r. ⌜ r ≡ refusal (messageRows params (keyOf form (now (words .entry)) (now (signed .entry)))
-        (now (mask .entry)) (now (errors .entry)) message room) ⌝ }
-{
-    let modulus = params.modulus;
-    let dimension = params.dimension;
-    let mut s = params.sizes();
-    s.key = lwe_secret_key::key_differs(form, words, signed, dimension);
-    s.output = dimension.ciphertext_differs(room);
-    s.lent = borrowed::lent_differs(mask.len(), errors.len(), dimension);
-    let r = s.first();
-    if r != 0 {
-        return r;
-    }
-    let mut v = Values::NONE;
-    v.word = lwe_secret_key::key_or_words_refused(form, modulus, words, signed, mask);
-    v.error = checks::errors_refused(params.error_limit, errors);
-    v.message = checks::message_refused(params.plaintext_modulus, message);
-    v.first()
-}
 
 // An encryption of a message under a key of either form.
 fn encrypt_message(
@@ -150,7 +118,7 @@ fn decrypt_under(
     let plaintext = checks::plaintext_refused(t);
     let small = checks::small_refused(t, modulus);
     let phases = params.phase_parameters();
-    let r = borrowed::decrypt_refusal(phases, plaintext, small, form, words, signed, ciphertext);
+    let r = decrypt_refusal(phases, plaintext, small, form, words, signed, ciphertext);
     if r != 0 {
         return WordAnswer::Refused(r);
     }

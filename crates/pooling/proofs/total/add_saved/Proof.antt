@@ -1,7 +1,7 @@
 use mathlib.Core.Path.{_≡_, sym, _∙_}
 use borrow.Author.Needs.{needs}
 use Rattle.scheme.proofs.Order.{told, given}
-use Rattle.pooling.specs.Total.{totalRefusal}
+use Rattle.pooling_refusals.specs.Rows.{totalRefusal}
 use Rattle.pooling.proofs.total.add_saved.Statement.{statement}
 use Rattle.pooling.proofs.total.add_saved.Tie as tie
 

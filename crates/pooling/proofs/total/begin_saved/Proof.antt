@@ -2,7 +2,7 @@ use mathlib.Core.Path.{_≡_, sym, _∙_}
 use borrow.Author.Needs.{needs}
 use lib.ListN.{length}
 use Rattle.scheme.proofs.Order.{told, given}
-use Rattle.pooling.specs.Total.{beginRefusal}
+use Rattle.pooling_refusals.specs.Rows.{beginRefusal}
 use Rattle.pooling.proofs.total.begin_saved.Statement.{statement}
 use Rattle.pooling.proofs.total.begin_saved.Tie as tie
 

@@ -9,7 +9,8 @@ use Rattle.scheme.proofs.Order.{refused}
 use Rattle.primus_reduce.specs.Ring.{sizeOf}
 use Rattle.primus_lwe.proofs.Decoded.{slice-decoded, done-by}
 use Rattle.primus_lwe.proofs.Laws.{judged-with}
-use Rattle.primus_lwe_batch.specs.Answers.{batchRows, decryptBatchRows, batchPhase}
+use Rattle.lwe_batch_refusals.specs.Rows.{batchRows, decryptBatchRows}
+use Rattle.primus_lwe_batch.specs.Answers.{batchPhase}
 use Rattle.primus_lwe_batch.proofs.Laws.{Decryptable, decryptable, phases-below}
 use Rattle.primus_lwe_batch.proofs.message_batch.decrypt_message_batch_to.Statement.{statement}
 use Rattle.primus_lwe_batch.proofs.message_batch.decrypt_message_batch_to.Tie as tie

@@ -8,7 +8,8 @@ use Rattle.scheme.specs.Checks.{refusal}
 use Rattle.scheme.proofs.Order.{refused, done}
 use Rattle.primus_reduce.specs.Ring.{sizeOf}
 use Rattle.primus_lwe.proofs.Laws.{judged-without}
-use Rattle.primus_lwe_batch.specs.Answers.{batchRows, phasesRows, batchPhase}
+use Rattle.lwe_batch_refusals.specs.Rows.{batchRows, phasesRows}
+use Rattle.primus_lwe_batch.specs.Answers.{batchPhase}
 use Rattle.primus_lwe_batch.proofs.Laws.{Phasable, phasable}
 use Rattle.primus_lwe_batch.proofs.message_batch.decrypt_phase_batch_to.Statement.{statement}
 use Rattle.primus_lwe_batch.proofs.message_batch.decrypt_phase_batch_to.Tie as tie

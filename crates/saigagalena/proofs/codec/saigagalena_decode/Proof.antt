@@ -2,7 +2,7 @@ use mathlib.Core.Path.{ap, ap₂, _∙_}
 use Prim.Native.Nat.{ℕ}
 use Rattle.primus_reduce.specs.declared.modulus.Modulus.{Modulus}
 use Rattle.primus_encoding.specs.Answers.{decodeAnswer}
-use Rattle.c_numbers.specs.Service.{wordNumber}
+use Rattle.c_answers.specs.Service.{wordNumber}
 use Rattle.saigagalena.proofs.codec.saigagalena_decode.Statement.{statement}
 use Rattle.saigagalena.proofs.codec.saigagalena_decode.Tie as tie
 

@@ -4,7 +4,7 @@ use Rattle.primus_reduce.specs.Ring.{modulusFor}
 use Rattle.primus_reduce.specs.declared.modulus.Modulus.{Modulus}
 use Rattle.primus_encoding.specs.declared.PlaintextEmbedding.{PlaintextEmbedding}
 use Rattle.primus_encoding.specs.Answers.{encodeAnswer}
-use Rattle.c_numbers.specs.Service.{wordNumber}
+use Rattle.c_answers.specs.Service.{wordNumber}
 use Rattle.saigagalena.proofs.codec.saigagalena_encode.Statement.{statement}
 use Rattle.saigagalena.proofs.codec.saigagalena_encode.Tie as tie
 

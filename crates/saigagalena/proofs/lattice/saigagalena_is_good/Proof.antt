@@ -1,7 +1,7 @@
 use mathlib.Core.Path.{ap, _∙_}
 use Rattle.primus_reduce.specs.declared.modulus.Modulus.{Modulus}
 use Rattle.lwe_tag.specs.Answers.{markAnswer}
-use Rattle.c_numbers.specs.Service.{markNumber}
+use Rattle.c_answers.specs.Service.{markNumber}
 use Rattle.saigagalena.proofs.lattice.saigagalena_is_good.Statement.{statement}
 use Rattle.saigagalena.proofs.lattice.saigagalena_is_good.Tie as tie
 

@@ -1,5 +1,5 @@
 use mathlib.Core.Path.{ap, _∙_}
-use Rattle.c_numbers.specs.Service.{wordNumber}
+use Rattle.c_answers.specs.Service.{wordNumber}
 use Rattle.saigagalena.proofs.lengths.saigagalena_ciphertext_words.Statement.{statement}
 use Rattle.saigagalena.proofs.lengths.saigagalena_ciphertext_words.Tie as tie
 

@@ -7,7 +7,7 @@ use Rattle.scheme.proofs.Order.{told, given}
 use Rattle.primus_reduce.specs.Ring.{sizeOf}
 use Rattle.checks.specs.declared.WordAnswer.the-variants.{Word, Refused}
 use Rattle.lwe_secret_key.specs.Key.{keyOf}
-use Rattle.primus_lwe.specs.Answers.{ciphertextRows, phaseRows}
+use Rattle.lwe_refusals.specs.Rows.{ciphertextRows, phaseRows}
 use Rattle.primus_lwe.proofs.Laws.{judged-without, phasable}
 use Rattle.primus_lwe.proofs.secret_key.borrowed.phase_under.Statement.{statement}
 use Rattle.primus_lwe.proofs.secret_key.borrowed.phase_under.Tie as tie

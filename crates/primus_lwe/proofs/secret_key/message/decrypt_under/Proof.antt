@@ -8,7 +8,7 @@ use Rattle.scheme.proofs.Order.{told, given}
 use Rattle.primus_reduce.specs.Ring.{sizeOf}
 use Rattle.checks.specs.declared.WordAnswer.the-variants.{Word, Refused}
 use Rattle.lwe_secret_key.specs.Key.{keyOf}
-use Rattle.primus_lwe.specs.Answers.{ciphertextRows, decryptRows}
+use Rattle.lwe_refusals.specs.Rows.{ciphertextRows, decryptRows}
 use Rattle.primus_lwe.proofs.Laws.{judged-with}
 use Rattle.primus_lwe.proofs.Coded.{Decryptable, decryptable, decoded-is, phase-below}
 use Rattle.primus_lwe.proofs.secret_key.message.decrypt_under.Statement.{statement}
