@@ -136,7 +136,7 @@ pub fn begin_refusal(params: PoolParameters, bytes: &[u8], len: usize, places: u
     begin_judged(params, h, bytes, len, places)
 }
 
-// The same, of a total that a file is added to.
+// What refuses a file that is added to a total.
 pub fn total_refusal(params: PoolParameters, bytes: &[u8], total: &[u32], tallies: &[u64]) -> u32
     ensures { λ r. ⌜ r ≡ totalRefusal params (now (bytes .entry)) (now (total .entry)) (now (tallies .entry)) ⌝ }
 {
