@@ -12,9 +12,9 @@ use Rattle.scheme.proofs.Modulus.{bits-most}
 use Rattle.scheme.proofs.Checks.{dimension-ok, levels-ok}
 use Rattle.scheme.proofs.Order.{passed}
 use Rattle.primus_reduce.specs.Ring.{meant}
-use Rattle.key_switch_key.specs.declared.parameters.LweKeySwitchingParameters.{LweKeySwitchingParameters}
-use Rattle.key_switch_key.specs.Answers.{nIn, mIn, levelsIn, parameterRows}
-use Rattle.key_switch_key.proofs.Passed.{judged}
+use Rattle.key_switch_parameters.specs.declared.LweKeySwitchingParameters.{LweKeySwitchingParameters}
+use Rattle.key_switch_parameters.specs.Answers.{nIn, mIn, levelsIn, parameterRows}
+use Rattle.key_switch_parameters.proofs.Passed.{judged}
 use Rattle.c_numbers.specs.Lengths.{packedRows}
 
 pub record Packs (n count : ℕ) : Type 0 where

@@ -11,8 +11,8 @@ use Rattle.lwe_parameters.specs.declared.parameter.LweEncryptionParameters.{Lwe
 use Rattle.lwe_parameters.specs.declared.parameter.LweParameters.{LweParameters}
 use Rattle.lwe_parameters.specs.declared.parameter.LwePhaseParameters.{LwePhaseParameters}
 use Rattle.lwe_parameters.specs.declared.parameter.LweDecryptionParameters.{LweDecryptionParameters}
-use Rattle.key_switch_key.specs.declared.parameters.LweKeySwitchingParameters.{LweKeySwitchingParameters}
-use Rattle.key_switch_key.specs.Answers.{parametersWith}
+use Rattle.key_switch_parameters.specs.declared.LweKeySwitchingParameters.{LweKeySwitchingParameters}
+use Rattle.key_switch_parameters.specs.Answers.{parametersWith}
 
 abbrev pub embeddingFor : ℕ → PlaintextEmbedding
 embeddingFor centered = pick (eqb centered 0) Unsigned Centered

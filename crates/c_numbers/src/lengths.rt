@@ -3,11 +3,11 @@ ghost use mathlib.Core.Path.{_≡_};
 ghost use Prim.Native.Nat.{_+_, _*_};
 ghost use Rattle.scheme.specs.Checks.{refusal, dimensionFails};
 ghost use Rattle.checks.specs.Answers.{wordAnswer};
-ghost use Rattle.key_switch_key.specs.Answers.{parameterRows, keyWords};
+ghost use Rattle.key_switch_parameters.specs.Answers.{parameterRows, keyWords};
 ghost use Rattle.c_numbers.specs.Lengths.{packedRows};
 use check_order::Sizes;
 use checks::WordAnswer;
-use key_switch_key::LweKeySwitchingParameters;
+use key_switch_parameters::LweKeySwitchingParameters;
 use primus_lattice::LweDimension;
 
 // 6.

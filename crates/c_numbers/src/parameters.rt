@@ -4,7 +4,7 @@ ghost use Rattle.primus_reduce.specs.Ring.{modulusFor};
 ghost use Rattle.primus_decompose.specs.Answers.{basisWith};
 ghost use Rattle.c_numbers.specs.Numbers.{embeddingFor, phasesWith, decryptionWith};
 ghost use Rattle.c_numbers.specs.Numbers.{encryptionWith, messagesWith, switchingWith};
-use key_switch_key::LweKeySwitchingParameters;
+use key_switch_parameters::LweKeySwitchingParameters;
 use primus_decompose::ApproxSignedBasis;
 use primus_encoding::PlaintextEmbedding;
 use primus_encoding::RoundedCodec;

@@ -17,9 +17,9 @@ use Rattle.gadget_constants.specs.declared.prepared.PreparedBasis.{PreparedBasi
 use Rattle.primus_decompose.specs.Answers.{basis, preparedBy}
 use Rattle.gadget_constants.specs.Prepared.{Ready, basisIn}
 use Rattle.key_switch_tile.specs.Tile.{Shaped}
-use Rattle.key_switch_key.specs.declared.parameters.LweKeySwitchingParameters.{LweKeySwitchingParameters}
-use Rattle.key_switch_key.specs.Answers.{qIn, nIn, mIn}
-use Rattle.key_switch_key.proofs.Passed.{judged}
+use Rattle.key_switch_parameters.specs.declared.LweKeySwitchingParameters.{LweKeySwitchingParameters}
+use Rattle.key_switch_parameters.specs.Answers.{qIn, nIn, mIn}
+use Rattle.key_switch_parameters.proofs.Passed.{judged}
 use Rattle.key_switch.specs.Answers.{inputRows, switchRows, batchRows, Switchable}
 
 batch-whole : (len n : ℕ) → batchFails len n ≡ false → len ≡ len / (n + 1) * (n + 1)

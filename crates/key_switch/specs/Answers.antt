@@ -8,10 +8,10 @@ use Rattle.scheme.specs.Switch.{Below, switched, switchedBatch}
 use Rattle.scheme.specs.Tally.{Switched}
 use Rattle.scheme.specs.Checks.{Check, row, refusal, lengthFails, batchFails, wordsFail}
 use Rattle.primus_decompose.specs.Answers.{basis, rows}
-use Rattle.key_switch_key.specs.declared.parameters.LweKeySwitchingParameters.{LweKeySwitchingParameters}
+use Rattle.key_switch_parameters.specs.declared.LweKeySwitchingParameters.{LweKeySwitchingParameters}
 use Rattle.lwe_tag.specs.declared.LweAnswer.{LweAnswer}
 use Rattle.lwe_tag.specs.Answers.{tagFrom, WritesTagged}
-use Rattle.key_switch_key.specs.Answers.{qIn, nIn, mIn, keyWords, parameterRows}
+use Rattle.key_switch_parameters.specs.Answers.{qIn, nIn, mIn, keyWords, parameterRows}
 
 -- what both judge, where 10 says `bad` of the input's length and 11 `wrong` of the output's
 abbrev pub inputRows : LweKeySwitchingParameters → List ℕ → List ℕ → Bool → Bool → List Check

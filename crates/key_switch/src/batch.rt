@@ -2,7 +2,7 @@
 ghost use Rattle.key_switch.specs.Answers.{SwitchesBatch};
 use crate::switch_judged;
 use crate::switch_refusal;
-use key_switch_key::LweKeySwitchingParameters;
+use key_switch_parameters::LweKeySwitchingParameters;
 use lwe_tag::LweAnswer;
 use lwe_tag::LweTag;
 

@@ -4,7 +4,7 @@ ghost use lib.ListN.{length};
 ghost use Rattle.scheme.specs.Switch.{switchedBatch};
 ghost use Rattle.scheme.specs.Checks.{refusal};
 ghost use Rattle.primus_decompose.specs.Answers.{basis};
-ghost use Rattle.key_switch_key.specs.Answers.{nIn, mIn};
+ghost use Rattle.key_switch_parameters.specs.Answers.{nIn, mIn};
 ghost use Rattle.key_switch.specs.Answers.{inputRows, Switches, Switchable};
 
 mod batch;
@@ -13,8 +13,8 @@ pub use batch::key_switch_batch_to;
 use check_order::Values;
 use key_switch_kernel::switch_tiles;
 pub use key_switch_key::LweKeySwitchingKey;
-pub use key_switch_key::LweKeySwitchingParameters;
-pub use key_switch_key::LweKeySwitchingParametersAnswer;
+pub use key_switch_parameters::LweKeySwitchingParameters;
+pub use key_switch_parameters::LweKeySwitchingParametersAnswer;
 use lwe_tag::LweAnswer;
 use lwe_tag::LweTag;
 

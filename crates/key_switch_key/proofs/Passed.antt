@@ -1,8 +1,8 @@
--- What the checks of parameters and of a key leave.
+-- What the checks of a key leave.
 -- Assumes nothing.
 use mathlib.Core.Path.{_≡_, refl, sym, subst, _∙_}
 use mathlib.Core.Bool.{Bool, true, false, _||_}
-use mathlib.Core.List.{List, [], _++_}
+use mathlib.Core.List.{List, []}
 use Prim.Native.Nat.{ℕ, suc, _+_, _*_, _<_, _≤_}
 use native.Mathlib.Nat.{mul-le-mul-right, suc-mul}
 use native.Mathlib.Omega.{arith}
@@ -12,34 +12,15 @@ use lib.ListN.{length, take, drop}
 use borrow.Author.Tests.{eq-eqb, eqb-true, leb-false}
 use Rattle.scheme.specs.Numbers.{pick}
 use Rattle.scheme.specs.Switch.{entryNumber}
-use Rattle.scheme.specs.Checks.{Check, refusal, dimensionFails}
-use Rattle.scheme.proofs.Checks.{dimension-ok, length-ok}
-use Rattle.scheme.proofs.Order.{passed, passed-part, neither}
-use Rattle.primus_decompose.specs.Answers.{rows}
-use Rattle.key_switch_key.specs.declared.parameters.LweKeySwitchingParameters.{LweKeySwitchingParameters}
-use Rattle.key_switch_key.specs.Answers.{nIn, mIn, levelsIn, parameterRows, keyWords, entryRows, entryMissing, entryAnswer, entryPart}
+use Rattle.scheme.specs.Checks.{refusal}
+use Rattle.scheme.proofs.Checks.{length-ok}
+use Rattle.scheme.proofs.Order.{passed, neither}
+use Rattle.key_switch_parameters.specs.declared.LweKeySwitchingParameters.{LweKeySwitchingParameters}
+use Rattle.key_switch_parameters.specs.Answers.{nIn, mIn, levelsIn, keyWords}
+use Rattle.key_switch_parameters.proofs.Passed.{judged}
+use Rattle.key_switch_key.specs.Answers.{entryRows, entryMissing, entryAnswer, entryPart}
 use Rattle.key_switch_key.specs.declared.key.EntryAnswer.{EntryAnswer}
 use Rattle.key_switch_key.specs.declared.key.EntryAnswer.the-variants as E
-
--- ---- parameters
-
-pub record Judged (P : LweKeySwitchingParameters) : Type 0 where
-  pub accepted : refusal (rows (P .basis)) ≡ 0
-  pub input-some : 1 ≤ nIn P
-  pub input-most : nIn P ≤ 2048
-  pub output-some : 1 ≤ mIn P
-  pub output-most : mIn P ≤ 2048
-
--- what 1 to 6 leave, of a call that judges more besides
-pub judged : (P : LweKeySwitchingParameters) (more : List Check) → refusal (parameterRows P ++ more) ≡ 0 → Judged P
-judged P more e =
-    let z : refusal (parameterRows P) ≡ 0 = passed-part (parameterRows P) more e in
-    let six = neither (dimensionFails (nIn P)) (dimensionFails (mIn P)) (passed (parameterRows P) z 6 tt) in
-    let n = dimension-ok (nIn P) (six .0) in
-    let m = dimension-ok (mIn P) (six .1) in
-    record { accepted = passed-part (rows (P .basis)) _ z; input-some = n .0; input-most = n .1; output-some = m .0; output-most = m .1 }
-
--- ---- entries
 
 -- neither place nor level is past the last
 present : (n i L j : ℕ) → (leb n i || leb L j) ≡ false → (i < n) × (j < L)

@@ -1,8 +1,7 @@
-// What a key switch is set up with, and its key: from one secret to another, an entry for each mask place and level.
+// The key of a key switch: from one secret to another, an entry for each mask place and level.
 mod key;
-mod parameters;
 
 pub use key::EntryAnswer;
 pub use key::LweKeySwitchingKey;
-pub use parameters::LweKeySwitchingParameters;
-pub use parameters::LweKeySwitchingParametersAnswer;
+pub use key_switch_parameters::LweKeySwitchingParameters;
+pub use key_switch_parameters::LweKeySwitchingParametersAnswer;

@@ -2,7 +2,7 @@
 use crate::files;
 use crate::files::DIFFERS;
 use key_switch::key_switch_batch_to;
-use key_switch_key::LweKeySwitchingParameters;
+use key_switch_parameters::LweKeySwitchingParameters;
 use primus_lattice::LweAnswer;
 use primus_lattice::LweDimension;
 use primus_lattice::LweDimensionAnswer;

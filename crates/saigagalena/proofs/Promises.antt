@@ -18,7 +18,7 @@ use Rattle.lwe_parameters.specs.declared.parameter.LweDecryptionParameters.{Lwe
 use Rattle.lwe_tag.specs.declared.LweAnswer.{LweAnswer}
 use Rattle.primus_lwe.specs.Answers.{Encrypts, EncryptsMessage, TakesPhase, Decrypts}
 use Rattle.primus_lwe_batch.specs.Answers.{EncryptsBatch, TakesPhases, DecryptsBatch}
-use Rattle.key_switch_key.specs.declared.parameters.LweKeySwitchingParameters.{LweKeySwitchingParameters}
+use Rattle.key_switch_parameters.specs.declared.LweKeySwitchingParameters.{LweKeySwitchingParameters}
 use Rattle.key_switch_key.specs.Answers.{Generates}
 use Rattle.key_switch.specs.Answers.{Switches, SwitchesBatch}
 use Rattle.c_basis.specs.Bases.{WritesBasis, WritesReading}

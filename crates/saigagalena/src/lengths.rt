@@ -2,7 +2,7 @@
 ghost use mathlib.Core.Path.{_≡_};
 ghost use Prim.Native.Nat.{_+_, _*_};
 ghost use Rattle.checks.specs.Answers.{wordAnswer};
-ghost use Rattle.key_switch_key.specs.Answers.{parameterRows, keyWords};
+ghost use Rattle.key_switch_parameters.specs.Answers.{parameterRows, keyWords};
 ghost use Rattle.c_numbers.specs.Numbers.{switchingWith};
 ghost use Rattle.c_numbers.specs.Lengths.{packedRows};
 ghost use Rattle.c_answers.specs.Service.{wordNumber};

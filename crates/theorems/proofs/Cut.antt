@@ -27,8 +27,8 @@ use Rattle.lwe_tag.specs.declared.LweTag.{LweTag}
 use Rattle.lwe_tag.specs.declared.LweAnswer.{LweAnswer}
 use Rattle.lwe_tag.specs.declared.LweAnswer.the-variants.{Written}
 use Rattle.lwe_tag.specs.Answers.{tagFrom}
-use Rattle.key_switch_key.specs.declared.parameters.LweKeySwitchingParameters.{LweKeySwitchingParameters}
-use Rattle.key_switch_key.specs.Answers.{qIn, nIn, mIn}
+use Rattle.key_switch_parameters.specs.declared.LweKeySwitchingParameters.{LweKeySwitchingParameters}
+use Rattle.key_switch_parameters.specs.Answers.{qIn, nIn, mIn}
 use Rattle.key_switch.specs.Answers.{switchRows, batchRows, Switches, SwitchesBatch}
 use Rattle.key_switch.proofs.Passed.{batch-passed}
 use Rattle.theorems.proofs.Calls.{written, settled-tag, words-fit, length-fit}

@@ -7,8 +7,8 @@ use Prim.Native.Nat.{ℕ}
 use lib.ListN.{length}
 use Rattle.scheme.specs.Checks.{row, refusal, lengthFails, wordsFail}
 use Rattle.scheme.proofs.Order.{passed, neither}
-use Rattle.key_switch_key.specs.declared.parameters.LweKeySwitchingParameters.{LweKeySwitchingParameters}
-use Rattle.key_switch_key.specs.Answers.{qIn, keyWords, parameterRows}
+use Rattle.key_switch_parameters.specs.declared.LweKeySwitchingParameters.{LweKeySwitchingParameters}
+use Rattle.key_switch_parameters.specs.Answers.{qIn, keyWords, parameterRows}
 use Rattle.key_switch.specs.Answers.{inputRows}
 
 -- the refusal by what 9, 10, 11, and 14 of the key and of the input, say

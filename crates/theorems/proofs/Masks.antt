@@ -28,9 +28,11 @@ use Rattle.scheme.specs.Tally.{Switched}
 use Rattle.lwe_tag.specs.declared.LweAnswer.the-variants.{Written}
 use Rattle.lwe_tag.specs.Answers.{tagFrom}
 use Rattle.lwe_tag.proofs.Writes as W
-use Rattle.key_switch_key.specs.declared.parameters.LweKeySwitchingParameters.{LweKeySwitchingParameters}
-use Rattle.key_switch_key.specs.Answers.{qIn, nIn, mIn, levelsIn, keyWords, parameterRows, generateRows, Generates}
-use Rattle.key_switch_key.proofs.Passed.{judged}
+use Rattle.key_switch_parameters.specs.declared.LweKeySwitchingParameters.{LweKeySwitchingParameters}
+use Rattle.key_switch_parameters.specs.Answers.{qIn, nIn, mIn, levelsIn, keyWords, parameterRows}
+use Rattle.key_switch_entries.specs.Answers.{generateRows}
+use Rattle.key_switch_key.specs.Answers.{Generates}
+use Rattle.key_switch_parameters.proofs.Passed.{judged}
 use Rattle.key_switch.specs.Answers.{batchRows, SwitchesBatch}
 use Rattle.key_switch.proofs.Passed.{batch-passed}
 use Rattle.theorems.specs.Choices.{EqualOutputs, Choice}

@@ -27,9 +27,11 @@ use Rattle.primus_decompose.specs.Answers.{basis}
 use Rattle.gadget_constants.proofs.Sound.{sound-basis}
 use Rattle.lwe_tag.specs.declared.LweTag.{LweTag}
 use Rattle.lwe_tag.specs.declared.LweAnswer.the-variants.{Written}
-use Rattle.key_switch_key.specs.declared.parameters.LweKeySwitchingParameters.{LweKeySwitchingParameters}
-use Rattle.key_switch_key.specs.Answers.{qIn, nIn, mIn, levelsIn, parameterRows, generateRows, Generates}
-use Rattle.key_switch_key.proofs.Passed.{judged}
+use Rattle.key_switch_parameters.specs.declared.LweKeySwitchingParameters.{LweKeySwitchingParameters}
+use Rattle.key_switch_parameters.specs.Answers.{qIn, nIn, mIn, levelsIn, parameterRows}
+use Rattle.key_switch_entries.specs.Answers.{generateRows}
+use Rattle.key_switch_key.specs.Answers.{Generates}
+use Rattle.key_switch_parameters.proofs.Passed.{judged}
 use Rattle.key_switch.specs.Answers.{batchRows, Switches, SwitchesBatch}
 use Rattle.key_switch.proofs.Passed.{one-passed, batch-passed}
 use Rattle.theorems.specs.Switched.{takenAs, Switched}

@@ -8,8 +8,9 @@ use Rattle.scheme.specs.Lwe.{Key}
 use Rattle.scheme.specs.Tally.{Switched}
 use Rattle.lwe_tag.specs.declared.LweAnswer.the-variants.{Written}
 use Rattle.lwe_tag.specs.Answers.{tagFrom}
-use Rattle.key_switch_key.specs.declared.parameters.LweKeySwitchingParameters.{LweKeySwitchingParameters}
-use Rattle.key_switch_key.specs.Answers.{mIn, Generates}
+use Rattle.key_switch_parameters.specs.declared.LweKeySwitchingParameters.{LweKeySwitchingParameters}
+use Rattle.key_switch_parameters.specs.Answers.{mIn}
+use Rattle.key_switch_key.specs.Answers.{Generates}
 use Rattle.key_switch.specs.Answers.{SwitchesBatch}
 
 -- "these two outputs are equal in every word for every choice of the key's masks": row t of what the batch call writes for X over

@@ -6,7 +6,7 @@ use Rattle.scheme.specs.Checks.{refusal}
 use Rattle.lwe_tag.proofs.Writes.{refused, done}
 use Rattle.scheme.proofs.Switch.{one-switch}
 use Rattle.primus_decompose.specs.Answers.{basis}
-use Rattle.key_switch_key.specs.Answers.{nIn, mIn}
+use Rattle.key_switch_parameters.specs.Answers.{nIn, mIn}
 use Rattle.key_switch.specs.Answers.{switchRows, Switchable}
 use Rattle.key_switch.proofs.Passed.{one-number, one-passed}
 use Rattle.key_switch.proofs.key_switch_to.Statement.{statement}

@@ -4,7 +4,7 @@ use native.Mathlib.Omega.{arith}
 use Rattle.scheme.specs.Checks.{firstIn, refusal}
 use Rattle.scheme.proofs.Order.{only, told, given}
 use Rattle.checks.specs.declared.WordAnswer.the-variants.{Word, Refused}
-use Rattle.key_switch_key.specs.Answers.{parameterRows, keyWords}
+use Rattle.key_switch_parameters.specs.Answers.{parameterRows, keyWords}
 use Rattle.c_numbers.proofs.Allocated.{Keys, keys}
 use Rattle.c_numbers.proofs.lengths.switching_key_words.Statement.{statement}
 use Rattle.c_numbers.proofs.lengths.switching_key_words.Tie as tie

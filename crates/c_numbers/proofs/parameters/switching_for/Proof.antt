@@ -1,6 +1,6 @@
 use mathlib.Core.Path.{ap, _∙_}
 use Rattle.primus_reduce.specs.declared.modulus.Modulus.{Modulus}
-use Rattle.key_switch_key.specs.Answers.{parametersWith}
+use Rattle.key_switch_parameters.specs.Answers.{parametersWith}
 use Rattle.c_numbers.proofs.parameters.switching_for.Statement.{statement}
 use Rattle.c_numbers.proofs.parameters.switching_for.Tie as tie
 

@@ -6,7 +6,7 @@ use Rattle.scheme.specs.Switch.{switchedBatch}
 use Rattle.scheme.specs.Checks.{refusal}
 use Rattle.lwe_tag.proofs.Writes.{refused, done}
 use Rattle.primus_decompose.specs.Answers.{basis}
-use Rattle.key_switch_key.specs.Answers.{nIn, mIn}
+use Rattle.key_switch_parameters.specs.Answers.{nIn, mIn}
 use Rattle.key_switch.specs.Answers.{batchRows}
 use Rattle.key_switch.proofs.Passed.{batch-number, rows-passed}
 use Rattle.key_switch.proofs.batch.key_switch_batch_to.Statement.{statement}

@@ -3,7 +3,7 @@ use borrow.Author.Needs.{needs}
 use lib.ListN.{length}
 use Rattle.scheme.proofs.Order.{refused, done}
 use Rattle.lwe_secret_key.specs.Key.{keyOf}
-use Rattle.key_switch_key.proofs.Entries.{Unrefused, generable}
+use Rattle.key_switch_entries.proofs.Entries.{Unrefused, generable}
 use Rattle.key_switch_key.proofs.key.generate_from.Statement.{statement}
 use Rattle.key_switch_key.proofs.key.generate_from.Tie as tie
 

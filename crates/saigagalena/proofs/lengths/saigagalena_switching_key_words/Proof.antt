@@ -1,7 +1,7 @@
 use mathlib.Core.Path.{ap, _∙_}
 use Rattle.checks.specs.Answers.{wordAnswer}
-use Rattle.key_switch_key.specs.declared.parameters.LweKeySwitchingParameters.{LweKeySwitchingParameters}
-use Rattle.key_switch_key.specs.Answers.{parameterRows, keyWords}
+use Rattle.key_switch_parameters.specs.declared.LweKeySwitchingParameters.{LweKeySwitchingParameters}
+use Rattle.key_switch_parameters.specs.Answers.{parameterRows, keyWords}
 use Rattle.c_answers.specs.Service.{wordNumber}
 use Rattle.saigagalena.proofs.lengths.saigagalena_switching_key_words.Statement.{statement}
 use Rattle.saigagalena.proofs.lengths.saigagalena_switching_key_words.Tie as tie

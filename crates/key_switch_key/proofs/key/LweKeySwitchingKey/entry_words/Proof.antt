@@ -7,7 +7,7 @@ use borrow.Author.Needs.{needs}
 use lib.ListN.{take, drop}
 use denote.Enum.Declared.{tagOf}
 use types.Run.{OneOf}
-use Rattle.key_switch_key.specs.declared.parameters.LweKeySwitchingParameters.{LweKeySwitchingParameters}
+use Rattle.key_switch_parameters.specs.declared.LweKeySwitchingParameters.{LweKeySwitchingParameters}
 use Rattle.key_switch_key.specs.declared.key.EntryAnswer.{EntryAnswer}
 use Rattle.key_switch_key.specs.declared.key.EntryAnswer.the-variants as E
 use Rattle.key_switch_key.specs.Answers.{entryPart}
