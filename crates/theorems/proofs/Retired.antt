@@ -13,8 +13,10 @@ use Rattle.scheme.proofs.Retired as R
 use Rattle.primus_reduce.specs.Ring.{meant}
 use Rattle.primus_decompose.specs.declared.primitive.basis.ApproxSignedBasis.{ApproxSignedBasis}
 use Rattle.primus_decompose.specs.Answers.{rows, wordRows, digitRows, sliceRows}
-use Rattle.key_switch_key.specs.declared.parameters.LweKeySwitchingParameters.{LweKeySwitchingParameters}
-use Rattle.key_switch_key.specs.Answers.{parameterRows, entryRows, generateRows}
+use Rattle.key_switch_parameters.specs.declared.LweKeySwitchingParameters.{LweKeySwitchingParameters}
+use Rattle.key_switch_parameters.specs.Answers.{parameterRows}
+use Rattle.key_switch_entries.specs.Answers.{generateRows}
+use Rattle.key_switch_key.specs.Answers.{entryRows}
 use Rattle.key_switch.specs.Answers.{switchRows, batchRows}
 
 -- the checks of a call on the basis b give the same first number with 4 and without it
