@@ -9,10 +9,10 @@ use native.Mathlib.Omega.{arith}
 use lib.ListN.{length, take, getD}
 use lib.Seq.{take-suc}
 use Rattle.scheme.specs.Numbers.{pick}
-use Rattle.readings_core.specs.Program.{over}
-use Rattle.readings_core.specs.Run.{silent, start, fed, finished}
+use Rattle.readings_commands.specs.Commands.{over}
+use Rattle.readings_reader.specs.Run.{silent, start, fed, finished}
 use Rattle.readings_core.specs.declared.command.Turn.{Turn}
-use Rattle.readings_core.specs.declared.reader.Reader.{Reader}
+use Rattle.readings_reader.specs.declared.reader.Reader.{Reader}
 use Rattle.readings_text.specs.Text.{fedAll, Read, Ran}
 
 pub fed-none : (m : Reader) → m ≡ fedAll m []

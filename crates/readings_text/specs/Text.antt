@@ -3,8 +3,8 @@ use mathlib.Core.Path.{_≡_}
 use mathlib.Core.List.{List, [], _∷_}
 use Prim.Native.Nat.{ℕ}
 use Rattle.readings_core.specs.declared.command.Turn.{Turn}
-use Rattle.readings_core.specs.declared.reader.Reader.{Reader}
-use Rattle.readings_core.specs.Run.{start, fed, finished}
+use Rattle.readings_reader.specs.declared.reader.Reader.{Reader}
+use Rattle.readings_reader.specs.Run.{start, fed, finished}
 
 unfoldable pub fedAll : Reader → List ℕ → Reader
 fedAll m [] = m

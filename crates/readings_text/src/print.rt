@@ -1,13 +1,13 @@
 // Bytes from one file descriptor, lines to another. What is read, and that each answer is printed as text, is tested, not proved.
 ghost use mathlib.Core.Path.{_≡_};
 ghost use lib.IntN.{natAbs};
-ghost use Rattle.readings_core.specs.Run.{finished};
+ghost use Rattle.readings_reader.specs.Run.{finished};
 ghost use Rattle.readings_text.specs.Text.{fedAll, Read, Ran};
 use readings_core::BasisReply;
-use readings_core::Reader;
 use readings_core::Reply;
 use readings_core::Turn;
 use readings_core::WordReply;
+use readings_reader::Reader;
 
 fn print_number(fd: i32, n: u64) {
     io::write_all(fd, b" ");

@@ -1,7 +1,7 @@
 use mathlib.Core.Path.{_∙_}
 use mathlib.Core.List.{[]}
 use borrow.Author.Needs.{needs}
-use Rattle.readings_core.specs.Run.{start}
+use Rattle.readings_reader.specs.Run.{start}
 use Rattle.readings_text.specs.Text.{Read}
 use Rattle.readings_text.proofs.Runs.{fed-none, read-more, ran}
 use Rattle.readings_text.proofs.print.run.Statement.{statement}
