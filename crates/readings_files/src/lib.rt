@@ -1,11 +1,10 @@
-// The run: which reads there are and what falls due is proved; that a read gives the input's next bytes, and the text of a line, are not.
+// The program of document 01 over two file descriptors. What each read leaves and where the reads end is proved; reading and printing are not.
 ghost use mathlib.Core.Path.{_≡_};
 ghost use Rattle.readings_reader.specs.Run.{finished};
-ghost use Rattle.readings_steps.specs.Steps.{Stepped, Ran};
-use crate::step;
-use crate::step::Step;
+ghost use Rattle.readings_files.specs.Runs.{Stepped, Ran};
 use readings_core::Turn;
 use readings_reader::Reader;
+use readings_steps::Step;
 
 // One read of up to 64 bytes; prints the turns that it leaves.
 fn read_some(before: Reader, input: i32, output: i32) -> Step
@@ -14,7 +13,7 @@ fn read_some(before: Reader, input: i32, output: i32) -> Step
     let mut bytes = [0u8; 64];
     let got = libc::read(input, &mut bytes);
     let n = io::count(got, &bytes);
-    let s = step::feed_all(before, &bytes[..n]);
+    let s = readings_steps::feed_all(before, &bytes[..n]);
     let turns = s.turns;
     readings_text::print_turns(output, turns, s.count);
     s

@@ -1,7 +1,7 @@
 use borrow.Author.Needs.{needs}
 use Rattle.readings_steps.proofs.Fed.{short}
-use Rattle.readings_steps.proofs.reads.read_some.Statement.{statement}
-use Rattle.readings_steps.proofs.reads.read_some.Tie as tie
+use Rattle.readings_files.proofs.read_some.Statement.{statement}
+use Rattle.readings_files.proofs.read_some.Tie as tie
 
 returns : tie.Need-returns
 returns c =

@@ -1,7 +1,7 @@
 use native.Mathlib.Omega.{arith}
-use Rattle.readings_steps.proofs.Runs.{Reached, begin, again, stop, spent}
-use Rattle.readings_steps.proofs.reads.run.Statement.{statement}
-use Rattle.readings_steps.proofs.reads.run.Tie as tie
+use Rattle.readings_files.proofs.Runs.{Reached, begin, again, stop, spent}
+use Rattle.readings_files.proofs.run.Statement.{statement}
+use Rattle.readings_files.proofs.run.Tie as tie
 
 abbrev Inv-loop : tie.InvT-loop
 Inv-loop input output m₀ reads₀ m reads = Reached m reads

@@ -16,9 +16,10 @@ use Rattle.readings_commands.specs.Commands.{over}
 use Rattle.readings_reader.specs.declared.reader.Reader.{Reader}
 use Rattle.readings_reader.specs.Run.{Line, due, silent, start, fed, finished, linesFed, linesOf}
 use Rattle.readings_reader.proofs.Whole.{whole-run}
 use Rattle.readings_steps.specs.declared.step.Step.{Step}
-use Rattle.readings_steps.specs.Steps.{fedAll, turnsFed, stepOf, Stepped, joined, endedAt, Ran, dues, handed}
+use Rattle.readings_steps.specs.Steps.{fedAll, turnsFed, stepOf}
 use Rattle.readings_steps.proofs.Fed.{fed-append, length-turns, take-places}
+use Rattle.readings_files.specs.Runs.{Stepped, joined, endedAt, Ran, dues, handed}
 
 joined-one : (rs : List (List ℕ)) (xs : List ℕ) → joined (rs ++ xs ∷ []) ≡ joined rs ++ xs
 unfolding joined
