@@ -3,5 +3,5 @@ use libc::STDIN_FILENO;
 use libc::STDOUT_FILENO;
 
 fn main() {
-    readings_text::run(STDIN_FILENO, STDOUT_FILENO);
+    readings_files::run(STDIN_FILENO, STDOUT_FILENO);
 }

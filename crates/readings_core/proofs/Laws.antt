@@ -13,8 +13,7 @@ use Rattle.scheme.specs.Numbers.{pick}
 use Rattle.scheme.specs.Checks.{refusal}
 use Rattle.gadget_constants.specs.Word.{readingOf}
 use Rattle.primus_decompose.specs.declared.primitive.basis.ApproxSignedBasis.{ApproxSignedBasis}
-use Rattle.primus_reduce.specs.declared.modulus.Modulus.{Modulus}
-use Rattle.primus_decompose.specs.Answers.{basisWith, basis, wordRows, readingAnswer}
+use Rattle.primus_decompose.specs.Answers.{basis, wordRows, readingAnswer}
 use Rattle.gadget_constants.specs.declared.word.Reading.{Reading}
 use Rattle.readings_core.specs.declared.command.Session.{Session}
 use Rattle.readings_core.specs.declared.command.Reply.{Reply}
@@ -22,14 +21,11 @@ use Rattle.primus_decompose.specs.declared.error.ReadingAnswer.the-variants as 
 use Rattle.readings_core.specs.declared.command.Reply.the-variants.{Word}
 use Rattle.readings_core.specs.declared.command.Session.the-variants.{Ready}
 use Rattle.readings_core.specs.declared.command.Turn.{Turn}
-use Rattle.readings_core.specs.Program.{numbers, shownDigit, go, basisTurn, wordFrom}
+use Rattle.readings_digits.specs.Digits.{numbers, shownDigit}
+use Rattle.readings_core.specs.Program.{go, wordFrom}
 
 pub same-go : {r x : Reply} {s : Session} → r ≡ x → go r s ≡ go x s
 same-go {s = s} e = ap (λ r. go r s) e
-
-pub same-basis : (s : Session) {m n : Modulus} {b c l k : ℕ} → m ≡ n → b ≡ c → l ≡ k → basisTurn s (basisWith m b l) ≡ basisTurn s (basisWith n c k)
-same-basis s {m} {n} {b} {c} {l} {k} em eb el =
-    ap₂ (λ x y. basisTurn s (basisWith x y l)) em eb ∙ ap (λ z. basisTurn s (basisWith n c z)) el
 
 pub word-line : (b : ApproxSignedBasis) (a n : ℕ) (x y : ℤ) (r : Reading) (ds : List ℤ) → x ≡ r .reading → y ≡ r .error → n ≡ b .«level_count» .0
     → ds ≡ numbers 16 (shownDigit b a)

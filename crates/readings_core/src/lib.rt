@@ -1,13 +1,10 @@
-// The program of document 01: commands of one byte, operands little-endian, one line of answer each.
+// The answers of the program of document 01: what a basis and a word answer.
 mod command;
-mod digits;
-mod reader;
 
 pub use command::BasisReply;
 pub use command::Reply;
 pub use command::Session;
 pub use command::Turn;
 pub use command::WordReply;
-pub use command::answer;
-pub use command::operand_count;
-pub use reader::Reader;
+pub use command::on_basis;
+pub use command::on_word;

@@ -16,7 +16,7 @@ fn replay(n: u32) {
         os::fail(&path);
         return;
     }
-    readings_text::run(fd, STDOUT_FILENO);
+    readings_files::run(fd, STDOUT_FILENO);
     libc::close(fd);
 }
 

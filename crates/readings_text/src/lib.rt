@@ -1,5 +1,6 @@
-// The program of document 01: bytes from one file descriptor, a line of text to another for each answer.
+// Answers of the program of document 01 as lines of text.
 mod print;
 
 pub use print::magnitude;
-pub use print::run;
+pub use print::print_turn;
+pub use print::print_turns;

@@ -1,10 +1,7 @@
-// Bytes from one file descriptor, lines to another. What is read, and that each answer is printed as text, is tested, not proved.
+// Answers as text. That a line has the digits and the words of its answer is tested, not proved: no contract can say what is written.
 ghost use mathlib.Core.Path.{_≡_};
 ghost use lib.IntN.{natAbs};
-ghost use Rattle.readings_core.specs.Run.{finished};
-ghost use Rattle.readings_text.specs.Text.{fedAll, Read, Ran};
 use readings_core::BasisReply;
-use readings_core::Reader;
 use readings_core::Reply;
 use readings_core::Turn;
 use readings_core::WordReply;
@@ -63,7 +60,8 @@ fn print_word(fd: i32, r: WordReply, digits: [i64; 16]) {
     print_digits(fd, digits, r.level_count);
 }
 
-fn print_turn(fd: i32, t: Turn) {
+// No line where there is nothing to say.
+pub fn print_turn(fd: i32, t: Turn) {
     let digits = t.digits;
     let reply = t.reply;
     match reply {
@@ -80,60 +78,14 @@ fn print_refusal(fd: i32, n: u32) {
     print_number(fd, n as u64);
 }
 
-// Feeds the bytes that were read, and prints each line as it falls due.
-fn feed_all(before: Reader, bytes: &[u8], output: i32) -> Reader
-    ensures { λ r. ⌜ r ≡ fedAll before (now (bytes .entry)) ⌝ }
-{
-    let mut m = before;
+// The first turns, in order.
+pub fn print_turns(fd: i32, turns: [Turn; 64], count: usize) {
     let mut i = 0;
-    while i < bytes.len() {
-        m = m.feed(bytes[i]);
-        print_turn(output, m.turn);
+    while i < 64 {
+        if i < count {
+            let t = turns[i];
+            print_turn(fd, t);
+        }
         i += 1;
     }
-    m
-}
-
-// A reader after one read, and whether the input has ended.
-struct Fed {
-    reader: Reader,
-    ended: bool,
-}
-
-fn feed_some(before: Reader, input: i32, output: i32) -> Fed
-    ensures { λ r. ⌜ Read before (r .reader) ⌝ }
-{
-    let mut bytes = io::buffer();
-    let got = libc::read(input, &mut bytes);
-    let n = io::count(got, &bytes);
-    Fed {
-        reader: feed_all(before, &bytes[..n], output),
-        ended: n == 0,
-    }
-}
-
-fn last(m: Reader, output: i32) -> Turn
-    ensures { λ r. ⌜ r ≡ finished m ⌝ }
-{
-    let t = m.finish();
-    print_turn(output, t);
-    t
-}
-
-// Commands until the input ends or 19 ends it. The answer is the last one, after the bytes that were read.
-pub fn run(input: i32, output: i32) -> Turn
-    ensures { λ r. ⌜ Ran r ⌝ }
-{
-    let mut m = Reader::new();
-    let mut reads = u64::MAX;
-    while reads > 0 {
-        let f = feed_some(m, input, output);
-        m = f.reader;
-        let turn = m.turn;
-        if f.ended || !turn.more {
-            return last(m, output);
-        }
-        reads -= 1;
-    }
-    last(m, output)
 }

@@ -1,5 +1,5 @@
 use mathlib.Core.Path.{refl}
-use Rattle.readings_core.specs.Program.{numbers}
+use Rattle.readings_digits.specs.Digits.{numbers}
 use Rattle.readings_core.proofs.command.next.Statement.{statement}
 use Rattle.readings_core.proofs.command.next.Tie as tie
 

@@ -1,0 +1,5 @@
+// One read of the program of document 01: what its bytes leave.
+mod step;
+
+pub use step::Step;
+pub use step::feed_all;
