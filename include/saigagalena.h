@@ -117,19 +117,19 @@ uint64_t saigagalena_packed_words(size_t n, size_t count);
 /* n (n + 1), or a refusal by 6. */
 uint64_t saigagalena_public_key_words(size_t n);
 
-/* n L (m + 1), or a refusal by 1 to 6. */
+/* n L (m + 1), or a refusal by 1 to 3, 5, 6. */
 uint64_t saigagalena_switching_key_words(uint32_t modulus, uint32_t base_log, uint32_t levels, size_t n, size_t m);
 
 /* ---- basis and readings */
 
-/* The basis in six words: k, B, L, d, H, T. Refuses by 1 to 5, 11 (out_len is not 6). */
+/* The basis in six words: k, B, L, d, H, T. Refuses by 1 to 3, 5, 11 (out_len is not 6). */
 uint32_t saigagalena_basis(uint32_t modulus, uint32_t base_log, uint32_t levels, uint32_t *out, size_t out_len);
 
-/* The reading of a word and its error, in two numbers. Refuses by 1 to 5, 11 (out_len is not 2), 14. */
+/* The reading of a word and its error, in two numbers. Refuses by 1 to 3, 5, 11 (out_len is not 2), 14. */
 uint32_t saigagalena_reading(uint32_t modulus, uint32_t base_log, uint32_t levels, uint32_t word, int64_t *out, size_t out_len);
 
 /* The digits of each word, as L runs of input_len words, lowest level first; a negative digit is stored as q + digit.
- * Refuses by 1 to 5, 11, 14. */
+ * Refuses by 1 to 3, 5, 11, 14. */
 uint32_t saigagalena_decompose(uint32_t modulus, uint32_t base_log, uint32_t levels, const uint32_t *input, size_t input_len,
                                uint32_t *out, size_t out_len);
 
@@ -264,7 +264,7 @@ saigagalena_answer saigagalena_extract(uint32_t modulus, size_t n, const uint32_
 /*
  * A switching key: for each place i of the input key, then each level j, an encryption of s_i * weight j under the
  * output key: m + 1 words. Masks (m words each) and errors (one each) are lent in that order; errors lie within
- * -error_limit .. error_limit. Refuse by 1 to 6, 9, 11, 12, 13, 14, 15.
+ * -error_limit .. error_limit. Refuse by 1 to 3, 5, 6, 9, 11, 12, 13, 14, 15.
  */
 uint32_t saigagalena_switching_key_generate(uint32_t modulus, uint32_t base_log, uint32_t levels, size_t n, size_t m,
                                             uint32_t error_limit, const uint32_t *input_key, size_t input_key_len,
@@ -278,7 +278,7 @@ uint32_t saigagalena_switching_key_generate_signed(uint32_t modulus, uint32_t ba
                                                    size_t out_len);
 
 /* One ciphertext under the output key: (0, b) minus the sum of digit(i, j) * entry(i, j) modulo q. Tag: no tally.
- * Refuses by 1 to 6, 9, 10, 11, 14. */
+ * Refuses by 1 to 3, 5, 6, 9, 10, 11, 14. */
 saigagalena_answer saigagalena_key_switch(uint32_t modulus, uint32_t base_log, uint32_t levels, size_t n, size_t m,
                                           const uint32_t *key, size_t key_len, const uint32_t *input, size_t input_len,
                                           uint32_t *out, size_t out_len);

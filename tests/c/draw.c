@@ -268,7 +268,7 @@ static uint32_t draw_element(struct draw *d, const struct call *call, const stru
     }
 }
 
-/* T, or 0 where there is no basis: 1 to 5 apply, or the call takes none. */
+/* T, or 0 where there is no basis: 1 to 3 or 5 apply, or the call takes none. */
 static uint64_t threshold_or_0(const struct call *call, const struct operands *o)
 {
     struct operands bare = *o;

@@ -1,4 +1,4 @@
--- The basis and a reading as rows of numbers, and what their calls judge: 1 to 5, and 11 for the output.
+-- The basis and a reading as rows of numbers, and what their calls judge: 1 to 3, 5, and 11 for the output.
 use mathlib.Core.Path.{_≡_}
 use mathlib.Core.List.{List, [], _∷_, _++_}
 use Prim.Native.Nat.{ℕ, _%_, _^_}
@@ -14,7 +14,7 @@ use Rattle.primus_decompose.specs.declared.error.ReadingAnswer.the-variants.{Re
 use Rattle.primus_decompose.specs.declared.primitive.basis.ApproxSignedBasis.{ApproxSignedBasis}
 use Rattle.primus_decompose.specs.Answers.{basis, rows, baseWord}
 
--- 1 to 5, and an output of `count` numbers
+-- 1 to 3, 5, and an output of `count` numbers
 abbrev pub outputRows : ApproxSignedBasis → ℕ → ℕ → List Check
 outputRows b room count = rows b ++ row (lengthFails room count) 11 ∷ []
 

@@ -33,7 +33,7 @@ fn write_constants(out: &mut [u32], basis: ApproxSignedBasis, threshold: u32)
     copy(out, &words);
 }
 
-// The first of 1 to 5, and 11 for an output that is not `count` numbers; or 0.
+// The first of 1 to 3, 5, and 11 for an output that is not `count` numbers; or 0.
 fn sizes_refusal(basis: ApproxSignedBasis, room: usize, count: usize) -> u32
     ensures { λ r. ⌜ sized basis room count r ⌝ }
 {
@@ -42,7 +42,7 @@ fn sizes_refusal(basis: ApproxSignedBasis, room: usize, count: usize) -> u32
     s.first()
 }
 
-// k, B, L, d, H and T. Refuses by 1 to 5, 11.
+// k, B, L, d, H and T. Refuses by 1 to 3, 5, 11.
 pub fn write_basis(out: &mut [u32], basis: ApproxSignedBasis) -> u32
     ensures { λ r. ⌜ WritesBasis basis (now (out .entry)) r (now (out .exit)) ⌝ }
 {
@@ -71,7 +71,7 @@ fn write_answer(out: &mut [i64], answer: ReadingAnswer) -> u32
     }
 }
 
-// The reading and ε of a word. Refuses by 1 to 5, 11, 14.
+// The reading and ε of a word. Refuses by 1 to 3, 5, 11, 14.
 pub fn write_reading(out: &mut [i64], basis: ApproxSignedBasis, word: u32) -> u32
     ensures { λ r. ⌜ WritesReading basis word (now (out .entry)) r (now (out .exit)) ⌝ }
 {

@@ -61,7 +61,7 @@ pub fn public_key_words(n: usize) -> WordAnswer
     WordAnswer::Word((n * (n + 1)) as u32)
 }
 
-// A switching key. Refuses by 1 to 6.
+// A switching key. Refuses by 1 to 3, 5, 6.
 pub fn switching_key_words(params: LweKeySwitchingParameters) -> WordAnswer
     ensures { λ r. ⌜ r ≡ wordAnswer (parameterRows params) (keyWords params) ⌝ }
 {

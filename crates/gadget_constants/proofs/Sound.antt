@@ -1,4 +1,4 @@
--- What checks 1 to 5 leave.
+-- What checks 1 to 3 and 5 leave.
 -- Assumes nothing.
 use mathlib.Core.Path.{_≡_}
 use Prim.Native.Nat.{ℕ}

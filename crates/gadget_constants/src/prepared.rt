@@ -73,7 +73,7 @@ fn wrap_threshold(log: u32, levels: u32, d: u32) -> u32
     (largest * power(d) + rounding) as u32
 }
 
-// The constants of a basis that passes 1 to 5.
+// The constants of a basis that passes 1 to 3 and 5.
 pub fn prepare(modulus: Modulus, log: u32, levels: usize) -> PreparedBasis
     requires { ⌜ refusal (basisRows 32 (meant modulus) log levels) ≡ 0 ⌝ }
     ensures { λ r. ⌜ Ready r × (r ≡ preparedOf modulus log levels) ⌝ }

@@ -6,7 +6,7 @@ use key_switch_parameters::LweKeySwitchingParameters;
 use lwe_tag::LweAnswer;
 use lwe_tag::LweTag;
 
-// Each row of n + 1 words is switched to its own row of m + 1, none with a tally. Refuses by 1 to 6, 9, 10, 11, 14.
+// Each row of n + 1 words is switched to its own row of m + 1, none with a tally. Refuses by 1 to 3, 5, 6, 9, 10, 11, 14.
 pub fn key_switch_batch_to(
     params: LweKeySwitchingParameters,
     key: &[u32],

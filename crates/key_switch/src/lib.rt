@@ -62,7 +62,7 @@ pub(crate) fn switch_judged(
     switch_tiles(out, input, key, n.get(), m.get(), count, p);
 }
 
-// One ciphertext, as a batch of one row; no tally. Refuses by 1 to 6, 9, 10, 11, 14.
+// One ciphertext, as a batch of one row; no tally. Refuses by 1 to 3, 5, 6, 9, 10, 11, 14.
 pub fn key_switch_to(
     params: LweKeySwitchingParameters,
     key: &[u32],

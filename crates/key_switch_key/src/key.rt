@@ -20,7 +20,7 @@ pub enum EntryAnswer {
     Refused(u32),
 }
 
-// 1 to 6, 9
+// 1 to 3, 5, 6, 9
 fn entry_refusal(params: LweKeySwitchingParameters, len: usize) -> u32
     ensures { λ r. ⌜ r ≡ refusal (entryRows params len) ⌝ }
 {
@@ -64,7 +64,7 @@ fn generate_from(
 }
 
 impl LweKeySwitchingKey {
-    // Where in the lent key entry (i, j) begins; `Missing` where i ≥ n or j ≥ L. Refuses by 1 to 6, 9.
+    // Where in the lent key entry (i, j) begins; `Missing` where i ≥ n or j ≥ L. Refuses by 1 to 3, 5, 6, 9.
     pub fn entry(params: LweKeySwitchingParameters, key: &[u32], i: usize, j: usize) -> EntryAnswer
         ensures { λ r. ⌜ r ≡ entryAnswer params (length (now (key .entry))) i j ⌝ }
     {
@@ -96,7 +96,7 @@ impl LweKeySwitchingKey {
     }
 
     // Entry (i, j) encrypts sᵢ × weight j under the output key, with mask and error i × L + j; errors lie within ±E.
-    // Refuses by 1 to 6, 9, 11, 12, 13, 14, 15.
+    // Refuses by 1 to 3, 5, 6, 9, 11, 12, 13, 14, 15.
     pub fn generate(
         params: LweKeySwitchingParameters,
         error_limit: u32,

@@ -17,7 +17,7 @@ pub record Judged (P : LweKeySwitchingParameters) : Type 0 where
   pub output-some : 1 ≤ mIn P
   pub output-most : mIn P ≤ 2048
 
--- what 1 to 6 leave, of a call that judges more besides
+-- what 1 to 3, 5, 6 leave, of a call that judges more besides
 pub judged : (P : LweKeySwitchingParameters) (more : List Check) → refusal (parameterRows P ++ more) ≡ 0 → Judged P
 judged P more e =
     let z : refusal (parameterRows P) ≡ 0 = passed-part (parameterRows P) more e in

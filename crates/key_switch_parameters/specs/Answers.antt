@@ -29,7 +29,7 @@ mIn P = P .«output_dimension» .0
 abbrev pub levelsIn : LweKeySwitchingParameters → ℕ
 levelsIn P = P .basis .«level_count» .0
 
--- the basis judges 1 to 5, and n and m 6
+-- the basis judges 1 to 3, 5, and n and m 6
 abbrev pub parameterRows : LweKeySwitchingParameters → List Check
 parameterRows P = rows (P .basis) ++ row (dimensionFails (nIn P)) 6 ∷ row (dimensionFails (mIn P)) 6 ∷ []
 

@@ -35,7 +35,7 @@ fn entries_differ(len: usize, n: usize, levels: usize, m: usize) -> bool
 }
 
 impl LweKeySwitchingParameters {
-    // Refuses by 1 to 6.
+    // Refuses by 1 to 3, 5, 6.
     pub fn try_new(
         basis: ApproxSignedBasis,
         input_dimension: LweDimension,
@@ -59,7 +59,7 @@ impl LweKeySwitchingParameters {
         LweKeySwitchingParametersAnswer::Accepted(params)
     }
 
-    // Any numbers, as a caller gives them, levels 0 left open: the calls judge them by 1 to 6.
+    // Any numbers, as a caller gives them, levels 0 left open: the calls judge them by 1 to 3, 5, 6.
     pub fn given(
         modulus: Modulus,
         base_log: u32,
@@ -76,7 +76,7 @@ impl LweKeySwitchingParameters {
         }
     }
 
-    // 1 to 6, each in its field: a call sets its own fields on top.
+    // 1 to 3, 5, 6, each in its field: a call sets its own fields on top.
     pub fn sizes(self) -> Sizes
         ensures { λ s. ⌜ JudgesSizes (parameterRows self) s ⌝ }
     {
@@ -86,7 +86,7 @@ impl LweKeySwitchingParameters {
         s
     }
 
-    // The first of 1 to 6 that applies, or 0.
+    // The first of 1 to 3, 5, 6 that applies, or 0.
     fn refusal(self) -> u32
         ensures { λ r. ⌜ r ≡ refusal (parameterRows self) ⌝ }
     {

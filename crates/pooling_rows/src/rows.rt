@@ -52,7 +52,7 @@ fn add_place(
     }
 }
 
-// The same in its place, of rows of `width` words.
+// One row in its place, of rows of `width` words.
 pub fn add_row(
     total: &mut [u32],
     number: u64,

@@ -37,7 +37,7 @@ use Rattle.primus_decompose.specs.declared.primitive.basis.ApproxSignedB
 abbrev pub basis : ApproxSignedBasis → B.Basis
 basis b = basisBy (b .modulus) (b .«log_basis» .0) (b .«level_count» .0)
 
--- a basis judges 1 to 5
+-- a basis judges 1 to 3 and 5
 abbrev pub rows : ApproxSignedBasis → List Check
 rows b = basisRows 32 (meant (b .modulus)) (b .«log_basis» .0) (b .«level_count» .0)
 
@@ -49,7 +49,7 @@ basisFrom m b l = record { modulus = m; «log_basis» = b; «level_count» = rec
 abbrev pub basisWith : Modulus → ℕ → ℕ → ApproxSignedBasis
 basisWith m b l = basisFrom m (record { 0 = b }) (levelsFor l)
 
--- a basis, or the first of 1 to 5
+-- a basis, or the first of 1 to 3 and 5
 abbrev pub tried : ApproxSignedBasis → ApproxSignedBasisAnswer
 tried b = pick (eqb (refusal (rows b)) 0) (A.Accepted b) (A.Refused (refusal (rows b)))
 
@@ -64,11 +64,11 @@ baseWord b = 2 ^ b .«log_basis» .0 % 2 ^ 32
 abbrev pub weightWord : ApproxSignedBasis → ℕ → ℕ
 weightWord b j = pick (ltb j (b .«level_count» .0)) (B.weight (basis b) j % 2 ^ 32) 0
 
--- T, or the first of 1 to 5
+-- T, or the first of 1 to 3 and 5
 abbrev pub thresholdAnswer : ApproxSignedBasis → WordAnswer
 thresholdAnswer b = wordAnswer (rows b) (R.threshold (basis b))
 
--- the constants, or the first of 1 to 5
+-- the constants, or the first of 1 to 3 and 5
 abbrev pub preparedBy : ApproxSignedBasis → PreparedBasis
 preparedBy b = preparedOf (b .modulus) (b .«log_basis» .0) (b .«level_count» .0)
 
@@ -80,7 +80,7 @@ abbrev pub WhereReady : PreparedBasisAnswer → Type 0
 WhereReady (P.Ready p) = Ready p
 WhereReady (P.Refused r) = Unit {0}
 
--- a call on one word judges 1 to 5 and 14
+-- a call on one word judges 1 to 3, 5 and 14
 abbrev pub wordRows : ApproxSignedBasis → ℕ → List Check
 wordRows b a = rows b ++ row (wordFails (sizeOf (b .modulus)) a) 14 ∷ []
 
@@ -101,7 +101,7 @@ readingAnswer b a =
 abbrev pub signedDigit : ApproxSignedBasis → ℕ → ℤ
 signedDigit b w = signedBy (baseWord b) (sizeOf (b .modulus)) w
 
--- the digits of a word, into `room` words, judge 1 to 5, 11 and 14
+-- the digits of a word, into `room` words, judge 1 to 3, 5, 11 and 14
 abbrev pub digitRows : ApproxSignedBasis → ℕ → ℕ → List Check
 digitRows b a room =
     rows b ++ row (lengthFails room (b .«level_count» .0)) 11 ∷ row (wordFails (sizeOf (b .modulus)) a) 14 ∷ []
@@ -110,7 +110,7 @@ digitRows b a room =
 pub record Decomposes (b : ApproxSignedBasis) (a : ℕ) (before : List ℕ) (r : ℕ) (after : List ℕ) : Type 0 where
   pub writes : Writes (digitRows b a (length before)) (digitsOf (basis b) a) before r after
 
--- the digits of a slice of words judge 1 to 5, 11 and 14
+-- the digits of a slice of words judge 1 to 3, 5, 11 and 14
 abbrev pub sliceRows : ApproxSignedBasis → List ℕ → ℕ → List Check
 sliceRows b xs room =
     rows b

@@ -40,7 +40,7 @@ noDigits = numbers 16 (λ j. pos 0)
 abbrev pub go : Reply → Session → Turn
 go r s = record { reply = r; digits = noDigits; session = s; more = true }
 
--- a basis is judged by 1 to 5, as T is answered; "A refused basis keeps the earlier one."
+-- a basis is judged by 1 to 3 and 5, as T is answered; "A refused basis keeps the earlier one."
 abbrev pub afterBasis : Session → ApproxSignedBasis → WordAnswer → Turn
 afterBasis s b (W.Word t) = go (Basis (basisLine b t)) (Ready b)
 afterBasis s b (W.Refused n) = go (Refused n) s
@@ -48,7 +48,7 @@ afterBasis s b (W.Refused n) = go (Refused n) s
 abbrev pub basisTurn : Session → ApproxSignedBasis → Turn
 basisTurn s b = afterBasis s b (A.thresholdAnswer b)
 
--- "`word` a reading ε digits"; a word is judged by 1 to 5 and 14, as its reading is answered
+-- "`word` a reading ε digits"; a word is judged by 1 to 3, 5 and 14, as its reading is answered
 abbrev pub wordFrom : ApproxSignedBasis → ℕ → ReadingAnswer → Turn
 wordFrom b a (E.Read r) =
     record {

@@ -6,7 +6,7 @@ use c_numbers::basis_for;
 use c_numbers::write_basis;
 use c_numbers::write_reading;
 
-// k, B, L, d, H and T. Refuses by 1 to 5, 11.
+// k, B, L, d, H and T. Refuses by 1 to 3, 5, 11.
 #[no_mangle]
 pub extern "C" fn saigagalena_basis(
     modulus: u32,
@@ -20,7 +20,7 @@ pub extern "C" fn saigagalena_basis(
     write_basis(out, basis_for(modulus, base_log, levels))
 }
 
-// The reading and ε of a word. Refuses by 1 to 5, 11, 14.
+// The reading and ε of a word. Refuses by 1 to 3, 5, 11, 14.
 #[no_mangle]
 pub extern "C" fn saigagalena_reading(
     modulus: u32,
@@ -35,7 +35,7 @@ pub extern "C" fn saigagalena_reading(
     write_reading(out, basis_for(modulus, base_log, levels), word)
 }
 
-// The digits of each word, as L runs. Refuses by 1 to 5, 11, 14.
+// The digits of each word, as L runs. Refuses by 1 to 3, 5, 11, 14.
 #[no_mangle]
 pub extern "C" fn saigagalena_decompose(
     modulus: u32,

@@ -39,7 +39,7 @@ pub extern "C" fn saigagalena_public_key_words(n: usize) -> u64
     c_numbers::word_number(c_numbers::public_key_words(n))
 }
 
-// A switching key: n × L × (m + 1). Refuses by 1 to 6.
+// A switching key: n × L × (m + 1). Refuses by 1 to 3, 5, 6.
 #[no_mangle]
 pub extern "C" fn saigagalena_switching_key_words(
     modulus: u32,

@@ -7,7 +7,7 @@ ghost use Rattle.c_answers.specs.Service.{Tells, outcomeOf};
 use c_numbers::LweOutcome;
 use key_switch_key::LweKeySwitchingKey;
 
-// Entry (i, j) encrypts sᵢ × weight j under the output key. Refuses by 1 to 6, 9, 11, 12, 13, 14, 15.
+// Entry (i, j) encrypts sᵢ × weight j under the output key. Refuses by 1 to 3, 5, 6, 9, 11, 12, 13, 14, 15.
 #[no_mangle]
 pub extern "C" fn saigagalena_switching_key_generate(
     modulus: u32,
@@ -69,7 +69,7 @@ pub extern "C" fn saigagalena_switching_key_generate_signed(
     )
 }
 
-// (0, b) minus the sum of digit(i, j) × entry(i, j) modulo q; no tally. Refuses by 1 to 6, 9, 10, 11, 14.
+// (0, b) minus the sum of digit(i, j) × entry(i, j) modulo q; no tally. Refuses by 1 to 3, 5, 6, 9, 10, 11, 14.
 #[no_mangle]
 pub extern "C" fn saigagalena_key_switch(
     modulus: u32,
@@ -88,7 +88,7 @@ pub extern "C" fn saigagalena_key_switch(
     c_numbers::outcome(key_switch::key_switch_to(params, key, input, out))
 }
 
-// Each row by itself, none with a tally. Refuses by 1 to 6, 9, 10, 11, 14.
+// Each row by itself, none with a tally. Refuses by 1 to 3, 5, 6, 9, 10, 11, 14.
 #[no_mangle]
 pub extern "C" fn saigagalena_key_switch_batch(
     modulus: u32,

@@ -24,7 +24,7 @@ use gadget_parameters::DecompositionLevelCount;
 use gadget_parameters::RetainedLevels;
 use primus_reduce::Modulus;
 
-// Three numbers, judged by 1 to 5 by every call that takes them.
+// Three numbers, judged by 1 to 3 and 5 by every call that takes them.
 pub struct ApproxSignedBasis {
     modulus: Modulus,
     log_basis: DecompositionBaseLog,
@@ -48,7 +48,7 @@ impl ApproxSignedBasis {
         ApproxSignedBasisAnswer::Accepted(b)
     }
 
-    // Any numbers, as a caller gives them, levels 0 left open: the calls judge them by 1 to 5.
+    // Any numbers, as a caller gives them, levels 0 left open: the calls judge them by 1 to 3 and 5.
     pub fn given(modulus: Modulus, base_log: u32, levels: u32) -> ApproxSignedBasis
         ensures { λ r. ⌜ r ≡ basisWith modulus «base_log» levels ⌝ }
     {
@@ -138,7 +138,7 @@ impl ApproxSignedBasis {
         gadget_constants::scalars_from(self.drop_bits(), log.get(), levels.get())
     }
 
-    // T. Refuses by 1 to 5.
+    // T. Refuses by 1 to 3, 5.
     pub fn threshold(self) -> WordAnswer
         ensures { λ r. ⌜ r ≡ thresholdAnswer self ⌝ }
     {
@@ -150,7 +150,7 @@ impl ApproxSignedBasis {
         WordAnswer::Word(p.threshold)
     }
 
-    // The adjusted word and the carry into the lowest level. Refuses by 1 to 5, 14.
+    // The adjusted word and the carry into the lowest level. Refuses by 1 to 3, 5, 14.
     pub fn init_value_carry(self, value: u32) -> ValueCarryAnswer
         ensures { λ r. ⌜ r ≡ initAnswer self value ⌝ }
     {
@@ -162,7 +162,7 @@ impl ApproxSignedBasis {
         ValueCarryAnswer::Ready(p.init_value_carry(value))
     }
 
-    // The decomposer of a word, before its lowest level. Refuses by 1 to 5, 14.
+    // The decomposer of a word, before its lowest level. Refuses by 1 to 3, 5, 14.
     pub fn decomposer(self, value: u32) -> DecomposerAnswer
         ensures { λ r. ⌜ r ≡ decomposerAnswer self value ⌝ }
     {
@@ -174,7 +174,7 @@ impl ApproxSignedBasis {
         DecomposerAnswer::Ready(p.decomposer(value))
     }
 
-    // The basis with its constants, for many words. Refuses by 1 to 5.
+    // The basis with its constants, for many words. Refuses by 1 to 3, 5.
     pub fn prepare(self) -> PreparedBasisAnswer
         ensures { λ r. ⌜ (r ≡ preparedAnswer self) × WhereReady r ⌝ }
     {
@@ -185,7 +185,7 @@ impl ApproxSignedBasis {
         PreparedBasisAnswer::Ready(self.prepared())
     }
 
-    // 1 to 5, each in its field: a call that takes a basis sets its own fields on top.
+    // 1 to 3, 5, each in its field: a call that takes a basis sets its own fields on top.
     pub fn sizes(self) -> Sizes
         ensures { λ s. ⌜ JudgesSizes (rows self) s ⌝ }
     {
@@ -195,7 +195,7 @@ impl ApproxSignedBasis {
         gadget_parameters::basis_sizes(modulus, log, levels)
     }
 
-    // The first of 1 to 5 that applies, or 0.
+    // The first of 1 to 3 and 5 that applies, or 0.
     pub fn refusal(self) -> u32
         ensures { λ r. ⌜ r ≡ refusal (rows self) ⌝ }
     {
@@ -203,7 +203,7 @@ impl ApproxSignedBasis {
         s.first()
     }
 
-    // 1 to 5, 14
+    // 1 to 3, 5, 14
     pub(crate) fn word_refusal(self, value: u32) -> u32
         ensures { λ r. ⌜ r ≡ refusal (wordRows self value) ⌝ }
     {
@@ -218,7 +218,7 @@ impl ApproxSignedBasis {
         v.first()
     }
 
-    // 1 to 5, 11, 14
+    // 1 to 3, 5, 11, 14
     pub(crate) fn slice_refusal(self, values: &[u32], room: usize) -> u32
         ensures { λ r. ⌜ r ≡ refusal (sliceRows self (now (values .entry)) room) ⌝ }
     {

@@ -12,7 +12,7 @@ impl ApproxSignedBasis {
         gadget_constants::signed_digit(digit, self.basis_value(), self.modulus())
     }
 
-    // The reading and ε. Refuses by 1 to 5, 14.
+    // The reading and ε. Refuses by 1 to 3, 5, 14.
     pub fn reading(self, value: u32) -> ReadingAnswer
         ensures { λ r. ⌜ r ≡ readingAnswer self value ⌝ }
     {

@@ -3,7 +3,7 @@ ghost use Rattle.primus_decompose.specs.Answers.{Decomposes, DecomposesS
 use crate::primitive::basis::ApproxSignedBasis;
 
 impl ApproxSignedBasis {
-    // The L digits of a word, lowest first, a negative one as q + digit. Refuses by 1 to 5, 11, 14.
+    // The L digits of a word, lowest first, a negative one as q + digit. Refuses by 1 to 3, 5, 11, 14.
     pub fn decompose(self, value: u32, digits: &mut [u32]) -> u32
         ensures { λ r. ⌜ Decomposes self value (now (digits .entry)) r (now (digits .exit)) ⌝ }
     {
@@ -11,7 +11,7 @@ impl ApproxSignedBasis {
         self.decompose_slice_to(&values, digits)
     }
 
-    // The digits of each word: L runs, lowest level first. Refuses by 1 to 5, 11, 14.
+    // The digits of each word: L runs, lowest level first. Refuses by 1 to 3, 5, 11, 14.
     pub fn decompose_slice_to(self, values: &[u32], digits: &mut [u32]) -> u32
         ensures { λ r. ⌜ DecomposesSlice self (now (values .entry)) (now (digits .entry)) r (now (digits .exit)) ⌝ }
     {
