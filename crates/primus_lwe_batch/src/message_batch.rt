@@ -36,7 +36,8 @@ fn write_messages(
     messages: &[u32],
 )
     requires { ⌜ Run (sizeOf (params .modulus)) (length (now secret)) (length (now masks)) (length (now errors))
-        (length (now out)) × (length (now messages) ≡ length (now errors)) × Codable (params .«plaintext_modulus») (params .modulus)
+        (length (now out)) × (length (now messages) ≡ length (now errors))
+        × Codable (params .«plaintext_modulus») (params .modulus)
         × (messagesFail (params .«plaintext_modulus») (now messages) ≡ false) ⌝ }
     ensures { λ _. ⌜ now (out .exit) ≡
         encryptedRows (sizeOf (params .modulus)) (length (now (secret .entry))) (length (now (errors .entry)))

@@ -19,8 +19,9 @@ pub extern "C" fn saigagalena_encrypt_encoded(
     plaintext: u32,
     out: &mut [u32],
 ) -> LweOutcome
-    ensures { λ r. ⌜ Tells outcomeOf (λ x. Encrypts (encryptionWith modulus n «error_limit») (Words (now (secret .entry)))
-        (now (mask .entry)) (now (errors .entry)) plaintext (now (out .entry)) x (now (out .exit))) r ⌝ }
+    ensures { λ r. ⌜ Tells outcomeOf (λ x. Encrypts (encryptionWith modulus n «error_limit»)
+        (Words (now (secret .entry))) (now (mask .entry)) (now (errors .entry)) plaintext (now (out .entry)) x
+        (now (out .exit))) r ⌝ }
 {
     let params = c_numbers::encryption_for(modulus, n, error_limit);
     c_numbers::outcome(primus_lwe::encrypt_encoded_to(params, secret, mask, errors, plaintext, out))
@@ -38,8 +39,9 @@ pub extern "C" fn saigagalena_encrypt_encoded_signed(
     plaintext: u32,
     out: &mut [u32],
 ) -> LweOutcome
-    ensures { λ r. ⌜ Tells outcomeOf (λ x. Encrypts (encryptionWith modulus n «error_limit») (Signed (now (secret .entry)))
-        (now (mask .entry)) (now (errors .entry)) plaintext (now (out .entry)) x (now (out .exit))) r ⌝ }
+    ensures { λ r. ⌜ Tells outcomeOf (λ x. Encrypts (encryptionWith modulus n «error_limit»)
+        (Signed (now (secret .entry))) (now (mask .entry)) (now (errors .entry)) plaintext (now (out .entry)) x
+        (now (out .exit))) r ⌝ }
 {
     let params = c_numbers::encryption_for(modulus, n, error_limit);
     c_numbers::outcome(primus_lwe::encrypt_encoded_signed_to(
@@ -66,9 +68,9 @@ pub extern "C" fn saigagalena_encrypt_message(
     message: u32,
     out: &mut [u32],
 ) -> LweOutcome
-    ensures { λ r. ⌜ Tells outcomeOf (λ x. EncryptsMessage (messagesWith modulus n t «error_limit») (embeddingFor centered)
-        (Words (now (secret .entry))) (now (mask .entry)) (now (errors .entry)) message (now (out .entry)) x
-        (now (out .exit))) r ⌝ }
+    ensures { λ r. ⌜ Tells outcomeOf (λ x. EncryptsMessage (messagesWith modulus n t «error_limit»)
+        (embeddingFor centered) (Words (now (secret .entry))) (now (mask .entry)) (now (errors .entry)) message
+        (now (out .entry)) x (now (out .exit))) r ⌝ }
 {
     let params = c_numbers::messages_for(modulus, n, t, error_limit);
     c_numbers::outcome(primus_lwe::encrypt_message_to(
@@ -96,9 +98,9 @@ pub extern "C" fn saigagalena_encrypt_message_signed(
     message: u32,
     out: &mut [u32],
 ) -> LweOutcome
-    ensures { λ r. ⌜ Tells outcomeOf (λ x. EncryptsMessage (messagesWith modulus n t «error_limit») (embeddingFor centered)
-        (Signed (now (secret .entry))) (now (mask .entry)) (now (errors .entry)) message (now (out .entry)) x
-        (now (out .exit))) r ⌝ }
+    ensures { λ r. ⌜ Tells outcomeOf (λ x. EncryptsMessage (messagesWith modulus n t «error_limit»)
+        (embeddingFor centered) (Signed (now (secret .entry))) (now (mask .entry)) (now (errors .entry)) message
+        (now (out .entry)) x (now (out .exit))) r ⌝ }
 {
     let params = c_numbers::messages_for(modulus, n, t, error_limit);
     c_numbers::outcome(primus_lwe::encrypt_message_signed_to(
@@ -126,9 +128,9 @@ pub extern "C" fn saigagalena_encrypt_message_batch(
     messages: &[u32],
     out: &mut [u32],
 ) -> LweOutcome
-    ensures { λ r. ⌜ Tells outcomeOf (λ x. EncryptsBatch (messagesWith modulus n t «error_limit») (embeddingFor centered)
-        (Words (now (secret .entry))) (now (masks .entry)) (now (errors .entry)) (now (messages .entry))
-        (now (out .entry)) x (now (out .exit))) r ⌝ }
+    ensures { λ r. ⌜ Tells outcomeOf (λ x. EncryptsBatch (messagesWith modulus n t «error_limit»)
+        (embeddingFor centered) (Words (now (secret .entry))) (now (masks .entry)) (now (errors .entry))
+        (now (messages .entry)) (now (out .entry)) x (now (out .exit))) r ⌝ }
 {
     let params = c_numbers::messages_for(modulus, n, t, error_limit);
     c_numbers::outcome(primus_lwe_batch::encrypt_message_batch_to(
@@ -183,8 +185,8 @@ pub extern "C" fn saigagalena_encrypt_message_packed(
     messages: &[u32],
     out: &mut [u32],
 ) -> LweOutcome
-    ensures { λ r. ⌜ Tells outcomeOf (λ x. EncryptsPackedMessages (messagesWith modulus n t «error_limit») (embeddingFor centered)
-        (now (secret .entry)) (now (mask .entry)) (now (errors .entry)) (now (messages .entry))
+    ensures { λ r. ⌜ Tells outcomeOf (λ x. EncryptsPackedMessages (messagesWith modulus n t «error_limit»)
+        (embeddingFor centered) (now (secret .entry)) (now (mask .entry)) (now (errors .entry)) (now (messages .entry))
         (now (out .entry)) x (now (out .exit))) r ⌝ }
 {
     let params = c_numbers::messages_for(modulus, n, t, error_limit);

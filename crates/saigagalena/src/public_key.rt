@@ -82,9 +82,9 @@ pub extern "C" fn saigagalena_public_key_encrypt_message(
     message: u32,
     out: &mut [u32],
 ) -> LweOutcome
-    ensures { λ r. ⌜ Tells outcomeOf (λ x. EncryptsPublicMessage (messagesWith modulus n t «error_limit») (embeddingFor centered)
-        (now (key .entry)) (now (errors .entry)) (now (coefficients .entry)) message (now (out .entry)) x
-        (now (out .exit))) r ⌝ }
+    ensures { λ r. ⌜ Tells outcomeOf (λ x. EncryptsPublicMessage (messagesWith modulus n t «error_limit»)
+        (embeddingFor centered) (now (key .entry)) (now (errors .entry)) (now (coefficients .entry)) message
+        (now (out .entry)) x (now (out .exit))) r ⌝ }
 {
     let params = c_numbers::messages_for(modulus, n, t, error_limit);
     c_numbers::outcome(LwePublicKey::encrypt_message_to(

@@ -100,8 +100,8 @@ pub extern "C" fn saigagalena_key_switch_batch(
     input: &[u32],
     out: &mut [u32],
 ) -> LweOutcome
-    ensures { λ r. ⌜ Tells outcomeOf (λ x. SwitchesBatch (switchingWith modulus «base_log» levels n m) (now (key .entry))
-        (now (input .entry)) (now (out .entry)) x (now (out .exit))) r ⌝ }
+    ensures { λ r. ⌜ Tells outcomeOf (λ x. SwitchesBatch (switchingWith modulus «base_log» levels n m)
+        (now (key .entry)) (now (input .entry)) (now (out .entry)) x (now (out .exit))) r ⌝ }
 {
     let params = c_numbers::switching_for(modulus, base_log, levels, n, m);
     c_numbers::outcome(key_switch::key_switch_batch_to(params, key, input, out))

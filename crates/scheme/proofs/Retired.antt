@@ -54,9 +54,9 @@ pub same-first : (w : ℕ) (m : Modulus) (b L : ℕ) (more : List Check) → Fit
 unfolding refusal firstIn
 same-first w m b L more f none =
     skipped _ _ _ (applies more 4 || fullFails (bits w m) b) _ (λ e₁ e₂ e₃.
-      let fits = one-level-fits w m b f (neither (baseLogFails w b) (applies more 1) e₁ .0) (neither (modulusFails m) (applies more 2) e₂ .0)
-        (neither (baseFails b m) (applies more 3) e₃ .0) in
-      rw (none, le-ltb (fullCount (bits w m) b) 1 fits))
+    let fits = one-level-fits w m b f (neither (baseLogFails w b) (applies more 1) e₁ .0) (neither (modulusFails m) (applies more 2) e₂ .0)
+    (neither (baseFails b m) (applies more 3) e₃ .0) in
+    rw (none, le-ltb (fullCount (bits w m) b) 1 fits))
 
 -- a refusal stands in the list
 listed : (f : ℕ → Bool) (ks : List ℕ) (k : ℕ) → firstIn f ks ≡ k → (k ≡ 0 → ⊥) → T (has k ks)
@@ -67,6 +67,7 @@ listed f (x ∷ xs) k e h = go (f x) e (λ z. listed f xs k z h)
     or-later : (b later : Bool) → T later → T (pick b true later)
     or-later true later t = tt
     or-later false later t = t
+
     go : (b : Bool) → pick b x (firstIn f xs) ≡ k → (firstIn f xs ≡ k → T (has k xs)) → T (has k (x ∷ xs))
     go true e rest = rw (eq-eqb x k e) tt
     go false e rest = or-later (eqb x k) (has k xs) (rest e)
