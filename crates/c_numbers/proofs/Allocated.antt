@@ -15,22 +15,25 @@ use Rattle.primus_reduce.specs.Ring.{meant}
 use Rattle.key_switch_parameters.specs.declared.LweKeySwitchingParameters.{LweKeySwitchingParameters}
 use Rattle.key_switch_parameters.specs.Answers.{nIn, mIn, levelsIn, parameterRows}
 use Rattle.key_switch_parameters.proofs.Passed.{judged}
-use Rattle.c_numbers.specs.Lengths.{packedRows}
+use Rattle.c_numbers.specs.Lengths.{dimensionRows, packedRows}
+
+pub record Rows (n : ℕ) : Type 0 where
+  pub most : n ≤ 2048
+  pub square : n * (n + 1) ≤ 2048 * 2049
+
+pub rows : (n : ℕ) → refusal (dimensionRows n) ≡ 0 → Rows n
+rows n e =
+    let d : (1 ≤ n) × (n ≤ 2048) = dimension-ok n (passed (dimensionRows n) e 6 tt) in
+    record { most = d .1; square = mul-le-mul {n₁ = n} {m₁ = n + 1} {n₂ = 2048} {m₂ = 2049} (d .1) (omega (arith, d .1)) }
 
 pub record Packs (n count : ℕ) : Type 0 where
   pub most : n ≤ 2048
   pub bodies : count ≤ n
-  pub square : n * (n + 1) ≤ 2048 * 2049
 
 pub packs : (n count : ℕ) → refusal (packedRows n count) ≡ 0 → Packs n count
 packs n count e =
     let no = passed (packedRows n count) e in
-    let d : (1 ≤ n) × (n ≤ 2048) = dimension-ok n (no 6 tt) in
-    record {
-      most = d .1;
-      bodies = ltb-false n count (no 10 tt);
-      square = mul-le-mul {n₁ = n} {m₁ = n + 1} {n₂ = 2048} {m₂ = 2049} (d .1) (omega (arith, d .1));
-    }
+    record { most = dimension-ok n (no 6 tt) .1; bodies = ltb-false n count (no 10 tt) }
 
 pub record Keys (P : LweKeySwitchingParameters) : Type 0 where
   pub input : nIn P ≤ 2048

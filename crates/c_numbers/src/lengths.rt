@@ -4,7 +4,7 @@ ghost use Prim.Native.Nat.{_+_, _*_};
 ghost use Rattle.scheme.specs.Checks.{refusal, dimensionFails};
 ghost use Rattle.checks.specs.Answers.{wordAnswer};
 ghost use Rattle.key_switch_parameters.specs.Answers.{parameterRows, keyWords};
-ghost use Rattle.c_numbers.specs.Lengths.{packedRows};
+ghost use Rattle.c_numbers.specs.Lengths.{dimensionRows, packedRows};
 use check_order::Sizes;
 use checks::WordAnswer;
 use key_switch_parameters::LweKeySwitchingParameters;
@@ -16,6 +16,14 @@ fn dimension_refused(n: usize) -> bool
 {
     let dimension = LweDimension::given(n);
     dimension.refused()
+}
+
+fn dimension_refusal(n: usize) -> u32
+    ensures { λ r. ⌜ r ≡ refusal (dimensionRows n) ⌝ }
+{
+    let mut s = Sizes::NONE;
+    s.dimension = dimension_refused(n);
+    s.first()
 }
 
 // 6, and 10 for more than n bodies.
@@ -30,9 +38,9 @@ fn packed_refusal(n: usize, count: usize) -> u32
 
 // A ciphertext. Refuses by 6.
 pub fn ciphertext_words(n: usize) -> WordAnswer
-    ensures { λ r. ⌜ r ≡ wordAnswer (packedRows n 0) (n + 1) ⌝ }
+    ensures { λ r. ⌜ r ≡ wordAnswer (dimensionRows n) (n + 1) ⌝ }
 {
-    let r = packed_refusal(n, 0);
+    let r = dimension_refusal(n);
     if r != 0 {
         return WordAnswer::Refused(r);
     }
@@ -52,9 +60,9 @@ pub fn packed_words(n: usize, count: usize) -> WordAnswer
 
 // A public key. Refuses by 6.
 pub fn public_key_words(n: usize) -> WordAnswer
-    ensures { λ r. ⌜ r ≡ wordAnswer (packedRows n 0) (n * (n + 1)) ⌝ }
+    ensures { λ r. ⌜ r ≡ wordAnswer (dimensionRows n) (n * (n + 1)) ⌝ }
 {
-    let r = packed_refusal(n, 0);
+    let r = dimension_refusal(n);
     if r != 0 {
         return WordAnswer::Refused(r);
     }

@@ -4,7 +4,7 @@ ghost use Prim.Native.Nat.{_+_, _*_};
 ghost use Rattle.checks.specs.Answers.{wordAnswer};
 ghost use Rattle.key_switch_parameters.specs.Answers.{parameterRows, keyWords};
 ghost use Rattle.c_numbers.specs.Numbers.{switchingWith};
-ghost use Rattle.c_numbers.specs.Lengths.{packedRows};
+ghost use Rattle.c_numbers.specs.Lengths.{dimensionRows, packedRows};
 ghost use Rattle.c_answers.specs.Service.{wordNumber};
 
 // The release that this is: later ones open what it saves.
@@ -18,7 +18,7 @@ pub extern "C" fn saigagalena_version() -> u32
 // A ciphertext: n + 1. Refuses by 6.
 #[no_mangle]
 pub extern "C" fn saigagalena_ciphertext_words(n: usize) -> u64
-    ensures { λ r. ⌜ r ≡ wordNumber (wordAnswer (packedRows n 0) (n + 1)) ⌝ }
+    ensures { λ r. ⌜ r ≡ wordNumber (wordAnswer (dimensionRows n) (n + 1)) ⌝ }
 {
     c_numbers::word_number(c_numbers::ciphertext_words(n))
 }
@@ -34,7 +34,7 @@ pub extern "C" fn saigagalena_packed_words(n: usize, count: usize) -> u64
 // A public key: n × (n + 1). Refuses by 6.
 #[no_mangle]
 pub extern "C" fn saigagalena_public_key_words(n: usize) -> u64
-    ensures { λ r. ⌜ r ≡ wordNumber (wordAnswer (packedRows n 0) (n * (n + 1))) ⌝ }
+    ensures { λ r. ⌜ r ≡ wordNumber (wordAnswer (dimensionRows n) (n * (n + 1))) ⌝ }
 {
     c_numbers::word_number(c_numbers::public_key_words(n))
 }
