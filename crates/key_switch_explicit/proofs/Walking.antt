@@ -23,7 +23,7 @@ use Rattle.key_switch_tile.specs.Rows.{Near}
 use Rattle.key_switch_tile.specs.Tile.{tile, lane, Place, PlaceRoom, Placed, Shaped, Lanes, begun, Reached}
 use Rattle.key_switch_tile.proofs.Lanes.{in-run}
 use Rattle.key_switch_tile.proofs.Walks.{q-pos, q-most, twice, levels-most, digit-near, start-most, reached-start, reached-next, reached-all, place-asks}
-use Rattle.key_switch_explicit.specs.Rows.{Kept}
+use Rattle.key_switch_accumulate.specs.Rows.{Kept}
 
 -- the numbers that the loop is set up with: q, B/2, the most that a place adds, and the limit that leaves room for it
 pub record Costs (p : PreparedBasis) (q h cost limit : ℕ) : Type 0 where

@@ -8,8 +8,6 @@ ghost use Rattle.gadget_constants.specs.Prepared.{basisIn};
 ghost use Rattle.key_switch_tile.specs.Tile.{tile, Level, LevelRoom, Leveled, Place, PlaceRoom, Placed};
 ghost use Rattle.key_switch_tile.specs.Tile.{Shaped, Reached, begun};
 
-mod accumulate;
-
 use gadget_constants::PreparedBasis;
 use gadget_digits::SignedDecomposer;
 use key_switch_tile::TILE;
@@ -38,7 +36,7 @@ fn level(
         let digit = s.digit;
         let state = s.next;
         let end = at + width;
-        accumulate::accumulate_entry(&mut acc[at..end], entry, digit, half, q);
+        key_switch_accumulate::accumulate_entry(&mut acc[at..end], entry, digit, half, q);
         next[t] = state;
         at = end;
         t += 1;
@@ -116,7 +114,7 @@ fn walk(
     let mut at = 0;
     let mut i = 0;
     while i < n {
-        ceiling = accumulate::keep_room(acc, ceiling, limit, q);
+        ceiling = key_switch_accumulate::keep_room(acc, ceiling, limit, q);
         let lanes = key_switch_tile::lanes_of(input, n, i, rows, p);
         place(acc, key, at, width, lanes, rows, levels, half, q);
         ceiling += cost;
@@ -143,7 +141,7 @@ pub fn switch_tile(
         ≡ switchedBatch (basisIn p) n m (now (key .entry)) rows (now (input .entry)) ⌝ }
 {
     key_switch_tile::start(out, input, n, m, rows);
-    accumulate::load(acc, out);
+    key_switch_accumulate::load(acc, out);
     walk(acc, input, key, n, m, rows, q, p);
-    accumulate::reduce_to(out, acc, q);
+    key_switch_accumulate::reduce_to(out, acc, q);
 }

@@ -3,8 +3,8 @@ use Prim.Native.Nat.{_-_}
 use native.Mathlib.Omega.{arith}
 use lib.ListN.{length}
 use Rattle.scheme.proofs.InPlace.{Filled, filled-start, filled-next, filled-end}
-use Rattle.key_switch_explicit.proofs.accumulate.load.Statement.{statement}
-use Rattle.key_switch_explicit.proofs.accumulate.load.Tie as tie
+use Rattle.key_switch_accumulate.proofs.load.Statement.{statement}
+use Rattle.key_switch_accumulate.proofs.load.Tie as tie
 
 abbrev Inv-loop : tie.InvT-loop
 Inv-loop acc₀ words k₀ acc k = Filled words acc₀ acc k

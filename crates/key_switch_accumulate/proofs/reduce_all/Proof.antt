@@ -3,8 +3,8 @@ use Prim.Native.Nat.{_-_, _%_}
 use native.Mathlib.Omega.{arith}
 use lib.ListN.{length, length-map}
 use Rattle.scheme.proofs.InPlace.{Filled, filled-start, filled-end, mapped-next-in-place}
-use Rattle.key_switch_explicit.proofs.accumulate.reduce_all.Statement.{statement}
-use Rattle.key_switch_explicit.proofs.accumulate.reduce_all.Tie as tie
+use Rattle.key_switch_accumulate.proofs.reduce_all.Statement.{statement}
+use Rattle.key_switch_accumulate.proofs.reduce_all.Tie as tie
 
 abbrev Inv-loop : tie.InvT-loop
 Inv-loop acc₀ q k₀ acc k = Filled (map (λ x. x % q) acc₀) acc₀ acc k

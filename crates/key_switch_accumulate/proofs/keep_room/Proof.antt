@@ -1,7 +1,7 @@
 use borrow.Author.Needs.{needs}
-use Rattle.key_switch_explicit.proofs.Rows.{kept-reduced, kept-still}
-use Rattle.key_switch_explicit.proofs.accumulate.keep_room.Statement.{statement}
-use Rattle.key_switch_explicit.proofs.accumulate.keep_room.Tie as tie
+use Rattle.key_switch_accumulate.proofs.Rows.{kept-reduced, kept-still}
+use Rattle.key_switch_accumulate.proofs.keep_room.Statement.{statement}
+use Rattle.key_switch_accumulate.proofs.keep_room.Tie as tie
 
 returns : tie.Need-returns
 returns c =

@@ -1,10 +1,11 @@
-// Rows of exact sums of 64 bits, which stand for words modulo q and are reduced late.
+// Rows of exact sums of 64 bits, which stand for words modulo q and are reduced late. A crate below, not for users: its steps
+// have demands.
 ghost use mathlib.Core.Path.{_≡_};
 ghost use mathlib.Core.List.{map, zipWith};
 ghost use Prim.Native.Nat.{_+_, _-_, _*_, _%_, _^_, _<_, _≤_};
 ghost use lib.ListN.{length};
 ghost use Rattle.key_switch_tile.specs.Rows.{Spare, Less};
-ghost use Rattle.key_switch_explicit.specs.Rows.{Roomy, Kept};
+ghost use Rattle.key_switch_accumulate.specs.Rows.{Roomy, Kept};
 use primus_reduce::Modulus;
 
 // x + a × y
@@ -58,7 +59,7 @@ fn take_multiple(acc: &mut [u64], entry: &[u32], a: u32, q: u32)
 }
 
 // acc − digit × entry modulo q. A digit from B/2 on stands for q less: its opposite is added.
-pub(crate) fn accumulate_entry(acc: &mut [u64], entry: &[u32], digit: u32, half: u32, q: u32)
+pub fn accumulate_entry(acc: &mut [u64], entry: &[u32], digit: u32, half: u32, q: u32)
     requires { ⌜ Spare q half digit (now acc) (now entry) ⌝ }
     ensures { λ _. ⌜ Less q (half * q) digit (now (entry .entry)) (now (acc .entry)) (now (acc .exit)) ⌝ }
 {
@@ -81,7 +82,7 @@ fn reduce_all(acc: &mut [u64], q: u32)
 }
 
 // Reduces where the ceiling is past the limit, and answers the ceiling that then holds.
-pub(crate) fn keep_room(acc: &mut [u64], ceiling: u64, limit: u64, q: u32) -> u64
+pub fn keep_room(acc: &mut [u64], ceiling: u64, limit: u64, q: u32) -> u64
     requires { ⌜ (0 < q) × (q ≤ limit) ⌝ }
     ensures { λ r. ⌜ Kept q ceiling limit (now (acc .entry)) r (now (acc .exit)) ⌝ }
 {
@@ -94,7 +95,7 @@ pub(crate) fn keep_room(acc: &mut [u64], ceiling: u64, limit: u64, q: u32) -> u6
 }
 
 // acc becomes `words`
-pub(crate) fn load(acc: &mut [u64], words: &[u32])
+pub fn load(acc: &mut [u64], words: &[u32])
     requires { ⌜ length (now acc) ≡ length (now words) ⌝ }
     ensures { λ _. ⌜ now (acc .exit) ≡ now (words .entry) ⌝ }
 {
@@ -106,7 +107,7 @@ pub(crate) fn load(acc: &mut [u64], words: &[u32])
 }
 
 // out becomes acc mod q
-pub(crate) fn reduce_to(out: &mut [u32], acc: &[u64], q: u32)
+pub fn reduce_to(out: &mut [u32], acc: &[u64], q: u32)
     requires { ⌜ (0 < q) × (length (now out) ≡ length (now acc)) ⌝ }
     ensures { λ _. ⌜ now (out .exit) ≡ map (λ x. x % q) (now (acc .entry)) ⌝ }
 {

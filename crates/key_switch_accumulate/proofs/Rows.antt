@@ -12,7 +12,7 @@ use Rattle.scheme.proofs.Integers.{⊖-eq, diff}
 use Rattle.scheme.proofs.Residue.{cong-refl, cong-sym, cong-residue}
 use Rattle.scheme.proofs.InPlace.{Filled, filled-word, length-zip, zip-at, map-at}
 use Rattle.key_switch_tile.specs.Rows.{Spare, Less}
-use Rattle.key_switch_explicit.specs.Rows.{Roomy, Kept}
+use Rattle.key_switch_accumulate.specs.Rows.{Roomy, Kept}
 
 -- a word y of at most q: a × y and a × (q − y) are at most a × q
 times-most : (a y q : ℕ) → y ≤ q → a * y ≤ a * q

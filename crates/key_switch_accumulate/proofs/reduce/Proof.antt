@@ -1,8 +1,8 @@
 use native.Mathlib.Omega.{arith}
 use borrow.Author.Tests.{ne-eqb}
 use Rattle.scheme.specs.Numbers.{residue}
-use Rattle.key_switch_explicit.proofs.accumulate.reduce.Statement.{statement}
-use Rattle.key_switch_explicit.proofs.accumulate.reduce.Tie as tie
+use Rattle.key_switch_accumulate.proofs.reduce.Statement.{statement}
+use Rattle.key_switch_accumulate.proofs.reduce.Tie as tie
 
 returns : tie.Need-returns
 unfolding residue

@@ -4,8 +4,8 @@ use Prim.Native.Nat.{_-_, _%_}
 use native.Mathlib.Omega.{arith}
 use lib.ListN.{length, length-map}
 use Rattle.scheme.proofs.InPlace.{Filled, filled-start, filled-end, mapped-next}
-use Rattle.key_switch_explicit.proofs.accumulate.reduce_to.Statement.{statement}
-use Rattle.key_switch_explicit.proofs.accumulate.reduce_to.Tie as tie
+use Rattle.key_switch_accumulate.proofs.reduce_to.Statement.{statement}
+use Rattle.key_switch_accumulate.proofs.reduce_to.Tie as tie
 
 abbrev Inv-loop : tie.InvT-loop
 Inv-loop out₀ acc q k₀ out k = Filled (map (λ x. x % q) acc) out₀ out k

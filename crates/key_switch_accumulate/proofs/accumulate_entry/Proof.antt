@@ -1,7 +1,7 @@
 use borrow.Author.Needs.{needs}
-use Rattle.key_switch_explicit.proofs.Rows.{roomy-small, roomy-large, less-small, less-large}
-use Rattle.key_switch_explicit.proofs.accumulate.accumulate_entry.Statement.{statement}
-use Rattle.key_switch_explicit.proofs.accumulate.accumulate_entry.Tie as tie
+use Rattle.key_switch_accumulate.proofs.Rows.{roomy-small, roomy-large, less-small, less-large}
+use Rattle.key_switch_accumulate.proofs.accumulate_entry.Statement.{statement}
+use Rattle.key_switch_accumulate.proofs.accumulate_entry.Tie as tie
 
 take-multiple-requires : tie.Need-take-multiple-requires
 take-multiple-requires c κs =
