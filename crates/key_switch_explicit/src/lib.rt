@@ -7,7 +7,6 @@ ghost use Rattle.scheme.specs.Switch.{switchedBatch};
 ghost use Rattle.gadget_constants.specs.Prepared.{basisIn};
 ghost use Rattle.key_switch_tile.specs.Tile.{tile, Level, LevelRoom, Leveled, Place, PlaceRoom, Placed};
 ghost use Rattle.key_switch_tile.specs.Tile.{Shaped, Reached, begun};
-
 use gadget_constants::PreparedBasis;
 use gadget_digits::SignedDecomposer;
 use key_switch_tile::TILE;
