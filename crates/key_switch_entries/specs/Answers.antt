@@ -1,13 +1,14 @@
--- What the generation of a key is judged by, and what writing its entries asks.
+-- What the generation of a key is judged by and writes, and what writing its entries asks.
 use mathlib.Core.Path.{_≡_}
 use mathlib.Core.List.{List, [], _∷_, _++_}
 use Prim.Native.Nat.{ℕ, _*_}
 use lib.IntN.{ℤ}
 use lib.ListN.{length}
-use Rattle.scheme.specs.Lwe.{Key, keyLength}
+use Rattle.scheme.specs.Lwe.{Key, keyLength, secretOf, words, signed}
+use Rattle.scheme.specs.Switch.{generated}
 use Rattle.scheme.specs.Checks.{Check, row, refusal, lengthFails}
 use Rattle.scheme.specs.Checks.{errorLimitFails, wordsFail, keyFails, errorsFail}
-use Rattle.primus_decompose.specs.Answers.{rows}
+use Rattle.primus_decompose.specs.Answers.{basis, rows}
 use Rattle.key_switch_parameters.specs.declared.LweKeySwitchingParameters.{LweKeySwitchingParameters}
 use Rattle.key_switch_parameters.specs.Answers.{qIn, nIn, mIn, levelsIn, parameterRows, keyWords}
 
@@ -26,6 +27,11 @@ generateRows P E key s′ masks errors room =
     ∷ row (wordsFail (qIn P) masks) 14
     ∷ row (errorsFail E errors) 15
     ∷ []
+
+-- "Entry (i, j) encrypts sᵢ × weight j under the output key. Masks and errors are lent in entry order"
+abbrev pub generatedFor : LweKeySwitchingParameters → Key → List ℕ → List ℤ → List ℕ → List ℕ
+generatedFor P key s′ errors masks =
+    generated (basis (P .basis)) (nIn P) (mIn P) (secretOf key) (words s′) (signed errors) masks
 
 -- what writing the entries asks
 pub record Generable (P : LweKeySwitchingParameters) (masks : List ℕ) (errors : List ℤ) (room : ℕ) : Type 0 where

@@ -3,14 +3,13 @@ ghost use mathlib.Core.Path.{_≡_};
 ghost use mathlib.Core.Bool.{_||_};
 ghost use Prim.Native.Nat.{_*_};
 ghost use lib.ListN.{length};
-ghost use Rattle.scheme.specs.Lwe.{words as wordsOf, signed as errorsOf, secretOf, keyLength};
-ghost use Rattle.scheme.specs.Switch.{generated};
+ghost use Rattle.scheme.specs.Lwe.{keyLength};
 ghost use Rattle.scheme.specs.Checks.{refusal, lengthFails, errorLimitFails, wordsFail, keyFails};
 ghost use Rattle.gadget_constants.specs.Prepared.{Ready};
-ghost use Rattle.primus_decompose.specs.Answers.{basis, rows, preparedBy};
+ghost use Rattle.primus_decompose.specs.Answers.{rows, preparedBy};
 ghost use Rattle.lwe_secret_key.specs.Key.{keyOf};
 ghost use Rattle.key_switch_parameters.specs.Answers.{qIn, nIn, mIn, levelsIn};
-ghost use Rattle.key_switch_entries.specs.Answers.{generateRows, Generable};
+ghost use Rattle.key_switch_entries.specs.Answers.{generateRows, generatedFor, Generable};
 use check_order::Values;
 use gadget_constants::PreparedBasis;
 use key_switch_parameters::LweKeySwitchingParameters;
@@ -123,9 +122,8 @@ pub fn write_entries(
     errors: &[i32],
 )
     requires { ⌜ Generable params (now masks) (now errors) (length (now out)) ⌝ }
-    ensures { λ _. ⌜ now (out .exit) ≡ generated (basis (params .basis)) (nIn params) (mIn params)
-        (secretOf (keyOf form (now (words .entry)) (now (signed .entry))))
-        (wordsOf (now («output_key» .entry))) (errorsOf (now (errors .entry))) (now (masks .entry)) ⌝ }
+    ensures { λ _. ⌜ now (out .exit) ≡ generatedFor params (keyOf form (now (words .entry)) (now (signed .entry)))
+        (now («output_key» .entry)) (now (errors .entry)) (now (masks .entry)) ⌝ }
 {
     let p = prepared(params);
     let modulus = p.modulus;

@@ -6,13 +6,12 @@ use lib.Dec.{eqb, leb}
 use lib.IntN.{ℤ}
 use lib.ListN.{length}
 use Rattle.scheme.specs.Numbers.{pick}
-use Rattle.scheme.specs.Lwe.{Key, words, signed, secretOf}
-use Rattle.scheme.specs.Switch.{entryNumber, entryOf, generated}
+use Rattle.scheme.specs.Lwe.{Key}
+use Rattle.scheme.specs.Switch.{entryNumber, entryOf}
 use Rattle.scheme.specs.Checks.{Check, row, refusal, Writes, lengthFails}
-use Rattle.primus_decompose.specs.Answers.{basis}
 use Rattle.key_switch_parameters.specs.declared.LweKeySwitchingParameters.{LweKeySwitchingParameters}
 use Rattle.key_switch_parameters.specs.Answers.{nIn, mIn, levelsIn, parameterRows, keyWords}
-use Rattle.key_switch_entries.specs.Answers.{generateRows}
+use Rattle.key_switch_entries.specs.Answers.{generateRows, generatedFor}
 use Rattle.key_switch_key.specs.declared.key.EntryAnswer.{EntryAnswer}
 use Rattle.key_switch_key.specs.declared.key.EntryAnswer.the-variants as E
 
@@ -43,4 +42,4 @@ pub record Generates (P : LweKeySwitchingParameters) (E : ℕ) (key : Key) (s′
     (before : List ℕ) (r : ℕ) (after : List ℕ) : Type 0 where
   pub writes :
       Writes (generateRows P E key s′ masks errors (length before))
-      (generated (basis (P .basis)) (nIn P) (mIn P) (secretOf key) (words s′) (signed errors) masks) before r after
+      (generatedFor P key s′ errors masks) before r after
