@@ -1,4 +1,4 @@
-// The digits of a word as the program shows them: signed, lowest first.
+// The digits of a word as the program shows them: signed, lowest first. Not for users: readings_core has judged the word.
 ghost use mathlib.Core.Path.{_≡_};
 ghost use lib.IntN.{pos};
 ghost use lib.Dec.{ltb};
