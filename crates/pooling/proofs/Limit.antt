@@ -5,13 +5,13 @@
 -- Assumes nothing.
 use mathlib.Core.Path.{_≡_, refl, sym, ap, ap₂, subst, _∙_}
 use mathlib.Core.Bool.{Bool, not, _&&_}
-use mathlib.Core.List.{List, [], _∷_}
+use mathlib.Core.List.{List, [], _∷_, _++_}
 use Prim.Native.Nat.{ℕ, _+_, _*_, _^_, _≤_, _<_}
 use native.Mathlib.Omega.{arith}
 use lib.ListN.{length, getD}
 use Rattle.scheme.specs.Numbers.{tabulate}
 use Rattle.scheme.specs.Tally.{tallyFails}
-use Rattle.scheme.specs.Checks.{applies, allOf}
+use Rattle.scheme.specs.Checks.{Check, applies, allOf}
 use Rattle.scheme.proofs.Lists.{tabulate-ext}
 use Rattle.little_endian.specs.Bytes.{word32, word64}
 use Rattle.little_endian.proofs.Laws.{four}
@@ -22,7 +22,7 @@ use Rattle.saved_head.specs.Head.{headOf}
 use Rattle.saved.specs.Layout.{fileWord, fileWords, savedTag}
 use Rattle.pooling_refusals.specs.declared.total.PoolParameters.{PoolParameters}
 use Rattle.pooling_rows.specs.Rows.{placeTag, sumNumber, placeSum, placeFails, talliesFail, savedFail, addTallies, savedTallies}
-use Rattle.pooling_refusals.specs.Rows.{beginRows, totalRows, fileRefusal, beginRefusal, totalRefusal}
+use Rattle.pooling_refusals.specs.Rows.{ownRows, sizeRows, beginRows, totalRows, fileRefusal, beginRefusal, totalRefusal}
 use Rattle.pooling.specs.Total.{BeginsSaved, AddsSaved}
 
 all-ext : (f g : ℕ → Bool) (xs : List ℕ) → ((i : ℕ) → f i ≡ g i) → allOf f xs ≡ allOf g xs
@@ -77,9 +77,13 @@ module _ (s u : List ℕ) (len : length s ≡ length u) (before : (k : ℕ) → 
   saved-same k = tabulate-ext k (λ i. savedTag s i .tally) (λ i. savedTag u i .tally) (λ i h. ap (λ g. g .tally) (tag-same i))
 
   module _ (p : PoolParameters) (xs ts : List ℕ) where
-    total-same : totalRefusal p s xs ts ≡ totalRefusal p u xs ts
+    -- what a file is judged by beside its words and tallies
+    abbrev judged : List ℕ → ℕ → ℕ → List Check
+    judged file width places = ownRows p (headOf file) file ++ sizeRows p (headOf file) width places
+
+    judged-same : judged s (length xs) (length ts) ≡ judged u (length xs) (length ts)
     unfolding headOf
-    total-same =
+    judged-same =
         rw (
           len,
           signature,
@@ -92,28 +96,19 @@ module _ (s u : List ℕ) (len : length s ≡ length u) (before : (k : ℕ) → 
           late 48 (omega arith),
           late64 52 (omega arith),
           late 60 (omega arith),
-          words-same (word32 u 44),
-          tallies-fail-same ts,
         )
+
+    total-same : totalRefusal p s xs ts ≡ totalRefusal p u xs ts
+    unfolding headOf
+    total-same =
+        ap₂ (λ first rest. fileRefusal (first ++ rest)) judged-same
+        (rw (late 44 (omega arith), words-same (word32 u 44), tallies-fail-same ts))
 
     begin-same : beginRefusal p s (length xs) (length ts) ≡ beginRefusal p u (length xs) (length ts)
     unfolding headOf
     begin-same =
-        rw (
-          len,
-          signature,
-          early 8 (omega arith),
-          early 12 (omega arith),
-          early 16 (omega arith),
-          early 32 (omega arith),
-          late 40 (omega arith),
-          late 44 (omega arith),
-          late 48 (omega arith),
-          late64 52 (omega arith),
-          late 60 (omega arith),
-          words-same (word32 u 44),
-          saved-fail-same (length ts),
-        )
+        ap₂ (λ first rest. fileRefusal (first ++ rest)) judged-same
+        (rw (late 44 (omega arith), words-same (word32 u 44), saved-fail-same (length ts)))
 
     pub limit-unread : {r : ℕ} {words tallies : List ℕ} → AddsSaved p s xs ts r words tallies → AddsSaved p u xs ts r words tallies
     limit-unread a =
