@@ -18,6 +18,7 @@ use Rattle.key_switch_parameters.specs.Answers.{parameterRows}
 use Rattle.key_switch_entries.specs.Answers.{generateRows}
 use Rattle.key_switch_key.specs.Answers.{entryRows}
 use Rattle.key_switch.specs.Answers.{switchRows, batchRows}
+use Rattle.c_basis.specs.Bases.{outputRows, readingRows}
 
 -- the checks of a call on the basis b give the same first number with 4 and without it
 abbrev pub Alike : ApproxSignedBasis → List Check → Type 0
@@ -44,6 +45,13 @@ digits-alike b f a room = alike b f _ refl
 
 pub slice-alike : (b : ApproxSignedBasis) → Word b → (xs : List ℕ) (room : ℕ) → Alike b (sliceRows b xs room)
 slice-alike b f xs room = alike b f _ refl
+
+-- `saigagalena_basis`, `saigagalena_reading`: rows of numbers for C
+pub output-alike : (b : ApproxSignedBasis) → Word b → (room count : ℕ) → Alike b (outputRows b room count)
+output-alike b f room count = alike b f _ refl
+
+pub reading-alike : (b : ApproxSignedBasis) → Word b → (a room : ℕ) → Alike b (readingRows b a room)
+reading-alike b f a room = alike b f _ refl
 
 module _ (P : LweKeySwitchingParameters) (f : Word (P .basis)) where
   pub parameters-alike : Alike (P .basis) (parameterRows P)
