@@ -1,6 +1,7 @@
 // What encryption is set up with. The constructors judge it at once; every call judges it again, with what it is lent.
 ghost use mathlib.Core.Path.{_≡_};
 ghost use Rattle.check_order.specs.Judged.{JudgesSizes};
+ghost use Rattle.lwe_parameters.specs.Answers.{phasesIn, phasesOf, decryptionOf};
 ghost use Rattle.lwe_parameters.specs.Answers.{phaseParametersRows, decryptionParametersRows};
 ghost use Rattle.lwe_parameters.specs.Answers.{encryptionParametersRows, encryptionParametersAnswer};
 ghost use Rattle.lwe_parameters.specs.Answers.{parametersRows, parametersAnswer};
@@ -79,7 +80,7 @@ impl LweDecryptionParameters {
 
     // What phases need of them.
     pub fn phase_parameters(self) -> LwePhaseParameters
-        ensures { λ r. ⌜ r ≡ record { dimension = self .dimension; modulus = self .modulus } ⌝ }
+        ensures { λ r. ⌜ r ≡ phasesIn self ⌝ }
     {
         let dimension = self.dimension;
         let modulus = self.modulus;
@@ -99,6 +100,15 @@ impl LweEncryptionParameters {
         s.dimension = dimension.refused();
         s.error_limit = checks::error_limit_refused(self.error_limit, modulus);
         s
+    }
+
+    // What phases need of them.
+    pub fn phase_parameters(self) -> LwePhaseParameters
+        ensures { λ r. ⌜ r ≡ phasesOf self ⌝ }
+    {
+        let dimension = self.dimension;
+        let modulus = self.modulus;
+        LwePhaseParameters { dimension, modulus }
     }
 
     // Refuses by 2, 6, 13.
@@ -169,11 +179,7 @@ impl LweParameters {
 
     // What a decryption needs of them.
     pub fn decryption_parameters(self) -> LweDecryptionParameters
-        ensures { λ r. ⌜ r ≡ record {
-          dimension = self .dimension;
-          modulus = self .modulus;
-          «plaintext_modulus» = self .«plaintext_modulus»;
-        } ⌝ }
+        ensures { λ r. ⌜ r ≡ decryptionOf self ⌝ }
     {
         let dimension = self.dimension;
         let modulus = self.modulus;

@@ -16,8 +16,7 @@ use Rattle.primus_reduce.specs.declared.modulus.Modulus.{Modulus}
 use Rattle.lwe_parameters.specs.declared.parameter.LweEncryptionParameters.{LweEncryptionParameters}
 use Rattle.lwe_parameters.specs.declared.parameter.LwePhaseParameters.{LwePhaseParameters}
 use Rattle.lwe_parameters.specs.declared.parameter.LweDecryptionParameters.{LweDecryptionParameters}
-use Rattle.lwe_parameters.specs.Answers.{phaseParametersRows, decryptionParametersRows}
-use Rattle.lwe_parameters.specs.Answers.{judgedRows}
+use Rattle.lwe_parameters.specs.Answers.{phasesIn, phaseParametersRows, decryptionParametersRows, judgedRows}
 use Rattle.lwe_refusals.specs.Rows.{encryptRows, phaseRows}
 
 -- ---- one function judges a call that takes t and one that does not
@@ -27,16 +26,13 @@ pub judged-without : (more : List Check) (P : LwePhaseParameters) → applies mo
 unfolding refusal firstIn
 judged-without more P seven eight = rw (seven, eight)
 
-abbrev phasesOf : LweDecryptionParameters → LwePhaseParameters
-phasesOf P = record { dimension = P .dimension; modulus = P .modulus }
-
-pub judged-with : (more : Modulus → ℕ → List Check) (P : LweDecryptionParameters) {Q : LwePhaseParameters} {b s : Bool} → Q ≡ phasesOf P
+pub judged-with : (more : Modulus → ℕ → List Check) (P : LweDecryptionParameters) {Q : LwePhaseParameters} {b s : Bool} → Q ≡ phasesIn P
     → b ≡ plaintextFails (P .«plaintext_modulus») → s ≡ smallFails (P .«plaintext_modulus») (meant (P .modulus))
     → refusal (judgedRows b s Q ++ more (Q .modulus) (Q .dimension .0)) ≡ refusal (decryptionParametersRows P ++ more (P .modulus) (P .dimension .0))
 unfolding refusal firstIn
 judged-with more P {Q} {b} {s} eq eb es =
     ap (λ Q. refusal (judgedRows b s Q ++ more (Q .modulus) (Q .dimension .0))) eq
-    ∙ ap₂ (λ b s. refusal (judgedRows b s (phasesOf P) ++ more (P .modulus) (P .dimension .0))) eb es
+    ∙ ap₂ (λ b s. refusal (judgedRows b s (phasesIn P) ++ more (P .modulus) (P .dimension .0))) eb es
 
 -- ---- what the checks leave
 

@@ -41,6 +41,7 @@ use Rattle.lwe_tag.specs.declared.MarkAnswer.the-variants as M
 use Rattle.lwe_tag.specs.Answers.{tallyOf, tagFrom, noTally, markRows, markAnswer}
 use Rattle.lwe_parameters.specs.declared.parameter.LweEncryptionParameters.{LweEncryptionParameters}
 use Rattle.lwe_parameters.specs.declared.parameter.LweParameters.{LweParameters}
+use Rattle.lwe_parameters.specs.Answers.{phasesOf, decryptionOf}
 use Rattle.lwe_refusals.specs.Rows.{encryptRows, phaseRows, messageRows, decryptRows}
 use Rattle.primus_lwe.specs.Answers.{encoded, encodings, Encrypts, TakesPhase, EncryptsMessage, Decrypts}
 use Rattle.primus_lwe.proofs.Laws.{encryptable}
@@ -48,7 +49,6 @@ use Rattle.primus_lwe.proofs.Coded.{messageable, phase-below}
 use Rattle.lwe_batch_refusals.specs.Rows.{encryptBatchRows, decryptBatchRows}
 use Rattle.primus_lwe_batch.specs.Answers.{batchPhase, EncryptsBatch, DecryptsBatch}
 use Rattle.theorems.specs.Phases.{HasPhase}
-use Rattle.theorems.specs.Opened.{phasesOf, decryptionOf}
 use Rattle.theorems.proofs.Calls.{written, settled, told, words-fit, length-fit}
 use Rattle.theorems.proofs.Encryption.{encrypt-phase, batch-masks}
 
