@@ -1,5 +1,5 @@
 /*
- * The calls of the C service. Link target/staticlib/libsaigagalena.a, which `rt staticlib saigagalena` writes.
+ * The calls of the C service. Link target/staticlib/libsaigagalena.a, which scripts/staticlib.sh writes.
  *
  * What holds of every call:
  *

@@ -6,6 +6,6 @@ cd "$(dirname "$0")/.."
 room=$(mktemp -d)
 trap 'rm -rf "$room"' EXIT
 if [ -z "$archive" ]; then
-    rt staticlib saigagalena >"$room/log" 2>&1 || { cat "$room/log"; exit 1; }
+    scripts/staticlib.sh >"$room/log" 2>&1 || { cat "$room/log"; exit 1; }
     archive=target/staticlib/libsaigagalena.a
 fi

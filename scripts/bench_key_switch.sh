@@ -2,7 +2,7 @@
 # Measures the C call saigagalena_key_switch_batch beside the same loops in Rust (bench/ported.rs): the
 # same words, times as ratios, growth, stack and heap. No part of the gate: it wants rustc, nm and a quiet
 # x86-64 machine, and takes one to three minutes after the library is built.
-#   scripts/bench_key_switch.sh [ARCHIVE]      an archive built already, in place of rt staticlib
+#   scripts/bench_key_switch.sh [ARCHIVE]      an archive built already, in place of scripts/staticlib.sh
 set -eu
 ARCHIVE=${1:-}
 # shellcheck source=scripts/archive.sh

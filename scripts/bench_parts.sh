@@ -1,7 +1,7 @@
 #!/bin/sh
 # Where the time of a batch switch goes (bench/parts.c): checks, digits, sums. No part of the gate: it wants a C
 # compiler (CC, default cc) and a quiet x86-64 machine.
-#   scripts/bench_parts.sh [ARCHIVE]      an archive built already, in place of rt staticlib
+#   scripts/bench_parts.sh [ARCHIVE]      an archive built already, in place of scripts/staticlib.sh
 set -eu
 ARCHIVE=${1:-}
 # shellcheck source=scripts/archive.sh

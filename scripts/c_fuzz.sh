@@ -1,7 +1,7 @@
 #!/bin/sh
 # Fuzzing of the static library through C: damaged copies of good operands for every call, against a plain C model of
 # document 01. `scripts/c_fuzz.sh [SEED [COUNT [SECONDS]]]`, by default 1 1000000 120: it ends after so many calls or
-# so many seconds, whichever comes first. Takes the archive that ARCHIVE names, or builds it with `rt staticlib`.
+# so many seconds, whichever comes first. Takes the archive that ARCHIVE names, or builds it with scripts/staticlib.sh.
 # SANITIZE=1 compiles the C side with sanitizers. No part of the gate: it wants a C compiler (CC, default cc) on x86-64.
 set -eu
 # shellcheck source=scripts/archive.sh

@@ -1,5 +1,5 @@
 #!/bin/sh
-# The C interface, tried: builds the static library with `rt staticlib saigagalena` (or takes the one that ARCHIVE
+# The C interface, tried: builds the static library with scripts/staticlib.sh (or takes the one that ARCHIVE
 # names), compiles the header as C11 and C++, the examples and the tests, each without and with sanitizers, and runs
 # them. No part of the gate: it wants nm and a C compiler on x86-64 (CC, default cc; CXX, default c++, is left out
 # where there is none; so are the sanitizers, and rustc for the example in Rust).

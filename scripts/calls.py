@@ -1,7 +1,7 @@
 #!/usr/bin/env python3
 """Holds docs/CALLS.md to the crates: fails where a call, its numbers or its promise's name differ.
 
-A table of CALLS.md stands under a heading `## CRATE: ..`, a row a call: names | operands | numbers | promise. Checked:
+A table of CALLS.md stands under a heading `## CRATE: ..` (saigagalena: the crates of that beginning), a row a call: names | operands | numbers | promise. Checked:
 - each public function of the crate is named in one row, and each name of a row is a public function of the crate;
 - the first name of the promise column stands in the contract of each call of the row;
 - the promise column says what the tag is where the promise is one of `WritesTagged`, as its definition has it, and only there;
@@ -34,7 +34,10 @@ def imported(text):
 def functions(crate):
     """The public functions of a crate: name (with its type, if it is a method), contract, and where its names come from."""
     found = {}
-    for path in sorted((ROOT / 'crates' / crate / 'src').rglob('*.rt')):
+    paths = (ROOT / 'crates' / crate / 'src').rglob('*.rt')
+    if crate == 'saigagalena':
+        paths = (ROOT / 'crates').glob('saigagalena_*/src/*.rt')
+    for path in sorted(paths):
         text = comments_out(path.read_text(), '//')
         names = imported(text)
         for m in FUNCTION.finditer(text):

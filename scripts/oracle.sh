@@ -7,7 +7,7 @@
 #   scripts/oracle.sh sample [--check]   writes the stored sample of the Rust's answers, or asks again and compares
 #   scripts/oracle.sh build              builds target/oracle/oracle only
 # The supplied files stand in ../shared/docs/src, or where PRIMUS_SRC says. The proved library is built with
-# `rt staticlib saigagalena` on every run, so that the code as it stands is judged; ARCHIVE names one built already.
+# scripts/staticlib.sh on every run, so that the code as it stands is judged; ARCHIVE names one built already.
 set -eu
 # Relative paths start where the caller stands.
 archive=${ARCHIVE:-}
@@ -83,7 +83,7 @@ case ${1:-} in
         ;;
 esac
 if [ -z "$archive" ]; then
-    rt staticlib saigagalena >"$build/staticlib.log" 2>&1 || { cat "$build/staticlib.log"; exit 1; }
+    scripts/staticlib.sh >"$build/staticlib.log" 2>&1 || { cat "$build/staticlib.log"; exit 1; }
     archive=target/staticlib/libsaigagalena.a
 fi
 cp "$archive" "$build/libsaigagalena.a"

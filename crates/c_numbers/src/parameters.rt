@@ -5,14 +5,14 @@ ghost use Rattle.primus_decompose.specs.Answers.{basisWith};
 ghost use Rattle.c_numbers.specs.Numbers.{embeddingFor, phasesWith, decryptionWith};
 ghost use Rattle.c_numbers.specs.Numbers.{encryptionWith, messagesWith, switchingWith};
 use key_switch_parameters::LweKeySwitchingParameters;
+use lwe_parameters::LweDecryptionParameters;
+use lwe_parameters::LweEncryptionParameters;
+use lwe_parameters::LweParameters;
+use lwe_parameters::LwePhaseParameters;
 use primus_decompose::ApproxSignedBasis;
 use primus_encoding::PlaintextEmbedding;
 use primus_encoding::RoundedCodec;
 use primus_lattice::LweDimension;
-use primus_lwe::LweDecryptionParameters;
-use primus_lwe::LweEncryptionParameters;
-use primus_lwe::LweParameters;
-use primus_lwe::LwePhaseParameters;
 use primus_reduce::Modulus;
 
 pub fn embedding_for(centered: u32) -> PlaintextEmbedding
