@@ -8,10 +8,11 @@ use native.Mathlib.Decide.{decLe}
 use native.Mathlib.Numerals.{add-one}
 use native.Mathlib.Omega.{arith}
 use lib.Arith.{digits-mod}
-use lib.Pow.{pow-lt, pow-mono}
+use lib.Bits.{bitAnd, and-mask, and-le-r}
+use lib.Pow.{pow-lt, pow-mono, shr-le, ones-split, ones-lt, high}
 use lib.Count.{trailingZeros, leadingZeros}
 use lib.IntN.{ℤ, pos, _+ℤ_, _-ℤ_}
-use borrow.Author.Tests.{ne-eqb}
+use borrow.Author.Tests.{ne-eqb, eqb-true}
 use Rattle.scheme.specs.Numbers.{residue, sumℕ}
 use Rattle.scheme.specs.Modulus.{isPower, valueBits}
 use Rattle.scheme.proofs.Integers.{_⊖_, ⊖-eq, diff}
@@ -35,6 +36,24 @@ power-bits w q e = rw (sym e)
 pub width-bits : (w q : ℕ) → false ≡ isPower w q → w - leadingZeros w q ≡ valueBits w q
 unfolding valueBits
 width-bits w q e = rw (sym e)
+
+-- the low i of w ones
+ones-shr : (w i : ℕ) → i ≤ w → (2 ^ w - 1) / 2 ^ (w - i) ≡ 2 ^ i - 1
+ones-shr w i h = ap (λ n. (2 ^ n - 1) / 2 ^ (w - i)) whole ∙ ap (λ n. n / 2 ^ (w - i)) (ones-split i (w - i)) ∙ high (2 ^ i - 1) (w - i) (ones-lt (w - i))
+  where
+    whole : w ≡ i + (w - i)
+    whole = omega arith
+
+-- a mask of i ones keeps x mod 2^i
+pub masked : (w x i : ℕ) → i ≤ w → bitAnd x ((2 ^ w - 1) / 2 ^ (w - i)) ≡ x % 2 ^ i
+masked w x i h = ap (bitAnd x) (ones-shr w i h) ∙ and-mask x i
+
+pub masked-fits : (w x m i : ℕ) → m < 2 ^ w → bitAnd x (m / 2 ^ i) < 2 ^ w
+masked-fits w x m i h = omega (arith, and-le-r x (m / 2 ^ i), shr-le m i)
+
+-- x mod q for a power of two
+pub power-mod : (w q x r : ℕ) → true ≡ isPower w q → r ≡ x % 2 ^ trailingZeros w q → r ≡ x % q
+power-mod w q x r e h = h ∙ ap (λ n. x % n) (eqb-true _ _ (sym e))
 
 -- ---- remainders
 

@@ -16,5 +16,6 @@ pub use ops::reduce;
 pub use ops::sub_explicit;
 pub use ops::wrapping_mul;
 pub use power::is_power;
+pub use power::quotient;
 pub use power::value_bits;
 pub use signed::magnitude;

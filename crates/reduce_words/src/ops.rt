@@ -3,6 +3,7 @@ ghost use mathlib.Core.Path.{_≡_};
 ghost use Prim.Native.Nat.{_*_, _%_, _^_, _<_};
 ghost use lib.IntN.{pos, _+ℤ_, _-ℤ_};
 ghost use Rattle.scheme.specs.Numbers.{residue};
+use crate::power;
 
 // The low 32 bits of a × b.
 pub fn wrapping_mul(a: u32, b: u32) -> u32
@@ -11,11 +12,14 @@ pub fn wrapping_mul(a: u32, b: u32) -> u32
     ((a as u64 * b as u64) % 0x1_0000_0000) as u32
 }
 
-// x mod q: the only division by q.
+// x mod q: the low bits for a power of two, else the only division by q.
 pub fn reduce(x: u64, q: u32) -> u32
     requires { ⌜ 0 < q ⌝ }
     ensures { λ r. ⌜ r ≡ x % q ⌝ }
 {
+    if power::is_power(q) {
+        return power::low_bits(x, u32::trailing_zeros(q));
+    }
     (x % q as u64) as u32
 }
 
