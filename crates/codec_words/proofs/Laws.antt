@@ -2,7 +2,7 @@
 -- Assumes nothing.
 use mathlib.Core.Path.{_≡_, sym, ap, _∙_}
 use Prim.Native.Nat.{ℕ, _+_, _-_, _*_, _/_, _%_, _^_, _≤_, _<_}
-use native.Mathlib.Nat.{mul-le-mul, mod-lt}
+use native.Mathlib.Nat.{mul-le-mul}
 use native.Mathlib.Omega.{arith}
 use Rattle.scheme.specs.Codec.{encode, encodeCentered, centeredStart}
 use Rattle.scheme.proofs.Codec.{encode-most, centered-high, centered-low}
@@ -16,9 +16,6 @@ product-most x y h k = mul-le-mul {n₁ = x} {m₁ = y} {n₂ = 4294967295} {m�
 
 pub start-is : (t : ℕ) → t / 2 + t % 2 ≡ centeredStart t
 start-is t = omega arith
-
-pub message-fits : (t q x : ℕ) → Moduli t q → x % t < 2 ^ 32
-message-fits t q x m = omega (arith, mod-lt x {m = t} (omega (arith, m .least)), m .below, m .most)
 
 module _ (t q x : ℕ) (m : Moduli t q) (h : x < t) where
   pub centered-fits : (s : ℕ) → s ≡ encode q t (t - x) → s ≤ q

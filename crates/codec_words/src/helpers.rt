@@ -6,6 +6,8 @@ ghost use Rattle.scheme.proofs.Order.{Sized};
 ghost use Rattle.codec_words.specs.Words.{Moduli, sizeRows};
 use check_order::Sizes;
 use primus_reduce::Modulus;
+use reduce_words::quotient;
+use reduce_words::reduce;
 
 // ⌈t/2⌉, the first message that Centered lifts to a negative number.
 fn centered_negative_start(plaintext_modulus: u32) -> u32
@@ -26,12 +28,12 @@ pub fn sizes_refusal(t: u32, q: Modulus, differs: bool) -> u32
     s.first()
 }
 
-// ⌊(2x × to + from) / (2 × from)⌋. In this form no part passes 64 bits: x × to + 2^31 ≤ 2^64 − 2^31.
+// ⌊(2x × to + from) / (2 × from)⌋. In this form no part passes 64 bits: x × to + 2^31 ≤ 2^64 − 2^31. From a power of two it is a shift.
 pub fn switch_value(from: u64, to: u64, x: u32) -> u64
     requires { ⌜ (0 < from) × (from ≤ 2 ^ 32) × (to ≤ 2 ^ 32) ⌝ }
     ensures { λ r. ⌜ r ≡ modulusSwitch from to x ⌝ }
 {
-    (x as u64 * to + from / 2) / from
+    quotient(x as u64 * to + from / 2, from)
 }
 
 // Centered: q − encode(t − m) from ⌈t/2⌉ on.
@@ -50,5 +52,5 @@ pub fn decode_word(t: u32, q: u64, value: u32) -> u32
     requires { ⌜ Moduli t q ⌝ }
     ensures { λ r. ⌜ r ≡ decode q t value ⌝ }
 {
-    (switch_value(q, t as u64, value) % t as u64) as u32
+    reduce(switch_value(q, t as u64, value), t)
 }

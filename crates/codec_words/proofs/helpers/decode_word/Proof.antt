@@ -1,15 +1,12 @@
-use mathlib.Core.Path.{ap}
+use mathlib.Core.Path.{ap, _∙_}
 use Prim.Native.Nat.{_%_}
+use native.Mathlib.Omega.{arith}
 use borrow.Author.Needs.{needs}
-use Rattle.codec_words.proofs.Laws.{message-fits}
 use Rattle.codec_words.proofs.helpers.decode_word.Statement.{statement}
 use Rattle.codec_words.proofs.helpers.decode_word.Tie as tie
 
-cast-result : tie.Need-cast-result
-cast-result c = record { fits = message-fits (c .before .args .t) (c .before .args .q) (c .switch-value .result) (c .before .pre) }
-
 returns : tie.Need-returns
-returns c = ap (λ x. x % c .before .args .t) (c .switch-value .ensures)
+returns c = let s = c .before in c .reduce .ensures ∙ ap (λ x. x % s .before .args .t) (s .switch-value .ensures)
 
 pub decode-word-spec : {M : Type 1} → statement M
-decode-word-spec = tie.close (tie.spec (λ c κs. search needs) (λ c. search needs) cast-result returns)
+decode-word-spec = tie.close (tie.spec (λ c κs. search needs) (λ c κs. search needs) returns)
