@@ -9,8 +9,8 @@ use native.Mathlib.Numerals.{add-one}
 use native.Mathlib.Omega.{arith}
 use lib.Arith.{digits-mod}
 use lib.Bits.{bitAnd, and-mask, and-le-r}
-use lib.Pow.{pow-lt, pow-mono, shr-le, ones-split, ones-lt, high}
-use lib.Count.{trailingZeros, leadingZeros}
+use lib.Pow.{pow-lt, pow-mono, shr-le, mod-mod-pow, ones-split, ones-lt, high}
+use lib.Count.{trailingZeros, leadingZeros, trailing-le}
 use lib.IntN.{ℤ, pos, _+ℤ_, _-ℤ_}
 use borrow.Author.Tests.{ne-eqb, eqb-true}
 use Rattle.scheme.specs.Numbers.{residue, sumℕ}
@@ -54,6 +54,19 @@ masked-fits w x m i h = omega (arith, and-le-r x (m / 2 ^ i), shr-le m i)
 -- x mod q for a power of two
 pub power-mod : (w q x r : ℕ) → true ≡ isPower w q → r ≡ x % 2 ^ trailingZeros w q → r ≡ x % q
 power-mod w q x r e h = h ∙ ap (λ n. x % n) (eqb-true _ _ (sym e))
+
+-- a power of two divides 2^w
+pub power-wraps : (w q s : ℕ) → true ≡ isPower w q → s % 2 ^ w % q ≡ s % q
+power-wraps w q s e = ap (λ n. s % 2 ^ w % n) (sym p) ∙ ap (λ n. s % 2 ^ n % 2 ^ t) whole ∙ mod-mod-pow s (w - t) t ∙ ap (λ n. s % n) p
+  where
+    t : ℕ
+    t = trailingZeros w q
+
+    p : 2 ^ t ≡ q
+    p = eqb-true _ _ (sym e)
+
+    whole : w ≡ w - t + t
+    whole = omega (arith, trailing-le w q)
 
 -- ---- remainders
 

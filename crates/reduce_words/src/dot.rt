@@ -1,10 +1,11 @@
-// A sum of products of words: exact, for one reduction, or native.
+// A sum of products of words: exact, for one reduction, or native; and modulo q.
 ghost use mathlib.Core.Path.{_≡_};
 ghost use Prim.Native.Nat.{_+_, _*_, _%_, _^_, _<_, _≤_};
 ghost use lib.ListN.{length};
 ghost use Rattle.scheme.specs.Numbers.{sumℕ};
 ghost use Rattle.reduce_words.specs.Exact.{exact, product};
 use crate::ops;
+use crate::power;
 
 // A sum of products of words, high × 2^64 + low.
 pub struct Exact {
@@ -67,6 +68,19 @@ pub fn dot_native(a: &[u32], b: &[u32], n: usize) -> u32
         i += 1;
     }
     sum
+}
+
+// Σ aᵢbᵢ mod q over n places. A power of two divides 2^32, so its sum may wrap.
+pub fn dot_explicit(a: &[u32], b: &[u32], n: usize, q: u32) -> u32
+    requires { ⌜ (0 < q) × (n ≤ length (now a)) × (n ≤ length (now b)) ⌝ }
+    ensures { λ r. ⌜ r ≡ sumℕ n (product (now (a .entry)) (now (b .entry))) % q ⌝ }
+{
+    if power::is_power(q) {
+        let sum = dot_native(a, b, n);
+        return ops::reduce(sum as u64, q);
+    }
+    let s = sum_products(a, b, n);
+    reduce_exact(s, q)
 }
 
 // The smaller of two lengths.

@@ -7,10 +7,10 @@ mod signed;
 
 pub use dot::Exact;
 pub use dot::add_product;
+pub use dot::dot_explicit;
 pub use dot::dot_native;
 pub use dot::least;
 pub use dot::reduce_exact;
-pub use dot::sum_products;
 pub use ops::add_explicit;
 pub use ops::reduce;
 pub use ops::sub_explicit;
