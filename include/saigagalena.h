@@ -37,7 +37,7 @@
 /* 2^64 - 1: no tally. A public-key, packed or switched ciphertext has none, and a sum with one that has none has none. */
 #define SAIGAGALENA_NO_TALLY UINT64_MAX
 
-/* Refusal numbers. Where several apply, the smallest is given. */
+/* Refusal numbers. Where several apply, the first in the order of document 01 is given: of these, the smallest. */
 #define SAIGAGALENA_BASE_LOG 1            /* the base log is below 2 or above 31 */
 #define SAIGAGALENA_MODULUS_BELOW_4 2     /* the modulus is 1, 2 or 3 */
 #define SAIGAGALENA_MODULUS_BELOW_BASE 3  /* the modulus is not 0 and below 2^(base log) */

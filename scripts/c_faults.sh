@@ -16,7 +16,7 @@ plant() {
     for test in refusals fuzz; do
         # shellcheck disable=SC2046 # every other file but the other main programs
         "$cc" -std=c11 -O1 -w -Iinclude "$room/c/$test.c" \
-            $(ls "$room"/c/*.c | grep -v -e refusals.c -e fuzz.c -e cases.c -e tags.c) "$archive" -o "$room/$test"
+            $(ls "$room"/c/*.c | grep -v -e refusals.c -e fuzz.c -e cases.c -e tags.c -e divisions.c) "$archive" -o "$room/$test"
         if "$room/$test" >"$room/out" 2>&1; then
             echo "$1: $test saw nothing"
             missed=1
