@@ -28,7 +28,7 @@ pub fn value_bits(q: u32) -> u32
 }
 
 // x mod 2^bits: the mask has as many ones.
-pub fn low_bits(x: u64, bits: u32) -> u32
+pub(crate) fn low_bits(x: u64, bits: u32) -> u32
     requires { ⌜ bits ≤ 32 ⌝ }
     ensures { λ r. ⌜ r ≡ x % 2 ^ bits ⌝ }
 {
