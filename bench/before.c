@@ -4,41 +4,14 @@
  */
 #define _POSIX_C_SOURCE 199309L
 #include <stdio.h>
-#include <stdlib.h>
 #include <string.h>
-#include <time.h>
 
 #include "calls.h"
+#include "measure.h"
 
 enum { RUNS = 60, ROWS = 64, N = 630, M = 630, BASE_LOG = 4 };
 
 size_t run_before(enum which which, const struct job *j), run_now(enum which which, const struct job *j); /* run_call of each archive */
-
-static uint64_t state = 1;
-
-/* Any words serve a benchmark. */
-static uint32_t word(uint64_t below)
-{
-    state = state * UINT64_C(6364136223846793005) + UINT64_C(1442695040888963407);
-    return (uint32_t)((state >> 32) * below >> 32);
-}
-
-static uint32_t *words(size_t len, uint64_t below)
-{
-    uint32_t *p = malloc(len * sizeof *p);
-    if (!p)
-        exit(1);
-    for (size_t i = 0; i < len; i++)
-        p[i] = word(below);
-    return p;
-}
-
-static double now(void)
-{
-    struct timespec t;
-    clock_gettime(CLOCK_PROCESS_CPUTIME_ID, &t);
-    return (double)t.tv_sec + 1e-9 * (double)t.tv_nsec;
-}
 
 typedef size_t run(enum which which, const struct job *j);
 
@@ -84,7 +57,7 @@ static double ratio(enum which which, const struct job *j, const uint32_t *first
 
 static void report(uint32_t modulus, uint32_t t)
 {
-    const uint64_t q = modulus ? modulus : UINT64_C(1) << 32;
+    const uint64_t q = q_of(modulus);
     size_t bits = 0;
     while (UINT64_C(1) << bits < q)
         bits++;

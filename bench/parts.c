@@ -2,9 +2,8 @@
  * refused by 14 after every check; natively every word is, and an output one word short is refused by 11), the digits of the same
  * mask words alone, and the rest. Processor time, the least of several runs. */
 #include <stdio.h>
-#include <stdlib.h>
-#include <time.h>
 
+#include "measure.h"
 #include "saigagalena.h"
 
 enum { RUNS = 7, BASE_LOG = 4, BATCH = 64 };
@@ -15,33 +14,6 @@ struct job {
     uint32_t *key, *input, *out, *mask, *digits;
     size_t key_len, input_len, out_len, mask_len;
 };
-
-static uint64_t state = 1;
-
-/* Any words serve a benchmark. */
-static uint32_t word(uint32_t modulus)
-{
-    state = state * UINT64_C(6364136223846793005) + UINT64_C(1442695040888963407);
-    uint32_t x = (uint32_t)(state >> 32);
-    return modulus ? x % modulus : x;
-}
-
-static uint32_t *words(size_t len, uint32_t modulus)
-{
-    uint32_t *p = malloc(len * sizeof *p);
-    if (!p)
-        exit(1);
-    for (size_t i = 0; i < len; i++)
-        p[i] = word(modulus);
-    return p;
-}
-
-static double now(void)
-{
-    struct timespec t;
-    clock_gettime(CLOCK_PROCESS_CPUTIME_ID, &t);
-    return (double)t.tv_sec + 1e-9 * (double)t.tv_nsec;
-}
 
 static uint32_t whole(struct job *j)
 {
@@ -94,11 +66,11 @@ static struct job prepared(uint32_t modulus, size_t n, size_t m)
     j.input_len = BATCH * (n + 1);
     j.out_len = BATCH * (m + 1);
     j.mask_len = BATCH * n;
-    j.key = words(j.key_len, modulus);
-    j.input = words(j.input_len, modulus);
-    j.out = words(j.out_len, modulus);
-    j.mask = words(j.mask_len, modulus);
-    j.digits = words(j.mask_len * j.levels, modulus);
+    j.key = words(j.key_len, q_of(modulus));
+    j.input = words(j.input_len, q_of(modulus));
+    j.out = words(j.out_len, q_of(modulus));
+    j.mask = words(j.mask_len, q_of(modulus));
+    j.digits = words(j.mask_len * j.levels, q_of(modulus));
     return j;
 }
 
