@@ -1,6 +1,5 @@
 use mathlib.Core.Path.{ap, _∙_}
 use Prim.Native.Nat.{_%_}
-use native.Mathlib.Omega.{arith}
 use borrow.Author.Needs.{needs}
 use Rattle.codec_words.proofs.helpers.decode_word.Statement.{statement}
 use Rattle.codec_words.proofs.helpers.decode_word.Tie as tie
