@@ -8,7 +8,7 @@ use lwe_tag::{LweAnswer, LweTag, MarkAnswer};
 
 // 0 and the tag of each ciphertext that was written; or the first number that applies, and no tally.
 #[repr(C)]
-#[derive(Drop)]
+#[derive(Clone, Copy)]
 pub struct LweOutcome {
     pub refusal: u32,
     pub tag: LweTag,

@@ -1,4 +1,5 @@
 // What the plain numbers of a C call stand for: for the exports of saigagalena.
+#![tactic(auto)]
 mod lengths;
 mod parameters;
 

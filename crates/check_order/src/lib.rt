@@ -1,11 +1,12 @@
 // Which numbers apply to a call, and the first of them. A call sets the fields that it judges: first the sizes, and only where none of
 // them applies the values, so that no word of a lent buffer is read before every length is known to fit.
+#![tactic(auto)]
 ghost use Rattle.std.specs.Prelude.{◌≡◌};
 ghost use Rattle.scheme.specs.Numbers.{pick};
 ghost use Rattle.check_order.specs.Judged.{FirstSize, FirstValue};
 
 // Numbers and lengths.
-#[derive(Drop)]
+#[derive(Clone, Copy)]
 pub struct Sizes {
     pub base_log: bool,
     pub modulus: bool,
@@ -22,7 +23,7 @@ pub struct Sizes {
 }
 
 // What is read of the lent buffers.
-#[derive(Drop)]
+#[derive(Clone, Copy)]
 pub struct Values {
     pub word: bool,
     pub error: bool,

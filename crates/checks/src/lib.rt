@@ -1,4 +1,5 @@
 // Checks that several calls share, each exact for every input; check_order has the first number that applies.
+#![tactic(auto)]
 ghost use Rattle.std.specs.Prelude.{◌≡◌, ◌||◌};
 ghost use Rattle.scheme.specs.Checks.{modulus_fails, plaintext_fails, small_fails, error_limit_fails, word_fails};
 ghost use Rattle.scheme.specs.Checks.{words_fail, magnitudes_fail, signed_fail, errors_fail, coefficients_fail, message_fails, messages_fail};
@@ -11,7 +12,7 @@ pub use check_lengths::{
 use primus_reduce::{Modulus, magnitude};
 
 // A word, or the first number that applies.
-#[derive(Drop)]
+#[derive(Clone, Copy)]
 pub enum WordAnswer {
     Word(u32),
     Refused(u32),

@@ -1,18 +1,19 @@
 // Compares the codec with data/codec.bin, which scripts/codec_vectors.py makes from document 01 and describes, and
 // with data/oracle.bin, which holds what the Rust answered (oracle/sample.py).
+#![tactic(auto)]
 mod bytes;
 mod slices;
 mod values;
 
 // Records compared, those that differ, and the first of these, counted from 0.
-#[derive(Drop)]
+#[derive(Clone, Copy)]
 struct Score {
     compared: u32,
     wrong: u32,
     first: u32,
 }
 
-#[derive(Drop)]
+#[derive(Clone, Copy)]
 struct Outcome {
     more: bool,
     right: bool,

@@ -7,13 +7,13 @@ use primus_decompose::{
 };
 
 // The basis that was accepted last.
-#[derive(Drop)]
+#[derive(Clone, Copy)]
 pub enum Held {
     Nothing,
     Basis(ApproxSignedBasis),
 }
 
-#[derive(Drop)]
+#[derive(Clone, Copy)]
 pub struct Compared {
     pub right: bool,
     pub held: Held,

@@ -1,12 +1,13 @@
 // Compares the library's answers with data/digits.bin, which scripts/digits_vectors.py makes from document 01 alone, and
 // with data/oracle.bin, which holds what the Rust answered (oracle/sample.py).
+#![tactic(auto)]
 mod basis;
 mod bytes;
 mod word;
 
 use basis::Held;
 
-#[derive(Drop)]
+#[derive(Clone, Copy)]
 struct State {
     held: Held,
     bases: u64,
@@ -14,7 +15,7 @@ struct State {
     wrong: u64,
 }
 
-#[derive(Drop)]
+#[derive(Clone, Copy)]
 struct Turn {
     more: bool,
     state: State,

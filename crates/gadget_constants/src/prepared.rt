@@ -9,7 +9,7 @@ ghost use Rattle.gadget_constants.specs.Prepared.{Narrow, wrap_at, Ready, prepar
 use primus_reduce::Modulus;
 
 // A basis with its constants, prepared once for many words: q, base log, L, d, T, 2^k − q and q − B.
-#[derive(Drop)]
+#[derive(Clone, Copy)]
 pub struct PreparedBasis {
     pub modulus: Modulus,
     pub log_basis: u32,

@@ -13,14 +13,14 @@ use gadget_digits::SignedDecomposer;
 use primus_reduce::Modulus;
 
 // The adjusted word and the carry into the lowest level.
-#[derive(Drop)]
+#[derive(Clone, Copy)]
 pub struct ValueCarry {
     pub value: u32,
     pub carry: bool,
 }
 
 // The reading of a word and its rounding error ε.
-#[derive(Drop)]
+#[derive(Clone, Copy)]
 pub struct Reading {
     pub reading: i64,
     pub error: i64,

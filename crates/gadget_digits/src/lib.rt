@@ -1,12 +1,13 @@
 // The decomposer: windows of the adjusted word, each with the carry from the one below. `write_column` is a step of the calls above, not
 // for users: it has a `requires`.
+#![tactic(auto)]
 ghost use Rattle.std.specs.Prelude.{◌≡◌, ◌+◌, ◌*◌, ◌/◌, ◌%◌, ◌^◌, ◌<◌, ◌≤◌, ltb, eqb, length};
 ghost use Rattle.gadget_digits.specs.Walk.{bit};
 ghost use Rattle.gadget_digits.specs.Step.{step_to, step_of};
 ghost use Rattle.gadget_digits.specs.Column.{Column};
 
 // What is left of the adjusted word above the levels taken, and the carry into the next.
-#[derive(Drop)]
+#[derive(Clone, Copy)]
 pub struct SignedDecomposer {
     pub value: u32,
     pub carry: bool,
@@ -15,7 +16,7 @@ pub struct SignedDecomposer {
 }
 
 // A digit modulo q, the carry out of its level, and the decomposer of the next.
-#[derive(Drop)]
+#[derive(Clone, Copy)]
 pub struct Step {
     pub digit: u32,
     pub carry: bool,

@@ -1,4 +1,5 @@
 // The kinds of a gadget basis, as in the Rust, and what judges them: 1 to 3, 5.
+#![tactic(auto)]
 ghost use Rattle.std.specs.Prelude.{◌≡◌, ◌*◌, ◌^◌, ltb};
 ghost use Rattle.scheme.specs.Modulus.{bits};
 ghost use Rattle.scheme.specs.Basis.{full_count};
@@ -11,22 +12,22 @@ use check_order::Sizes;
 use primus_reduce::Modulus;
 
 // Base-2 logarithm of the gadget radix B.
-#[derive(Drop)]
+#[derive(Clone, Copy)]
 pub struct DecompositionBaseLog(u32);
 
 // `Refused` holds 1: base log is below 2 or above 31.
-#[derive(Drop)]
+#[derive(Clone, Copy)]
 pub enum DecompositionBaseLogAnswer {
     Accepted(DecompositionBaseLog),
     Refused(u32),
 }
 
 // Number of retained levels L. Any number is one: the basis judges it, after the modulus.
-#[derive(Drop)]
+#[derive(Clone, Copy)]
 pub struct DecompositionLevelCount(usize);
 
 // The Rust's Option: left open, all whole levels are retained.
-#[derive(Drop)]
+#[derive(Clone, Copy)]
 pub enum RetainedLevels {
     Full,
     Count(DecompositionLevelCount),

@@ -10,11 +10,11 @@ use key_switch_parameters::LweKeySwitchingParameters;
 use lwe_secret_key::KeyForm;
 
 // Its words are lent.
-#[derive(Drop)]
+#[derive(Clone, Copy)]
 pub struct LweKeySwitchingKey {}
 
 // Where the m + 1 words of an entry begin in the key, that there is no such entry, or the first number that applies.
-#[derive(Drop)]
+#[derive(Clone, Copy)]
 pub enum EntryAnswer {
     At(usize),
     Missing,

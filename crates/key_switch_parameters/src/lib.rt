@@ -1,4 +1,5 @@
 // What a key switch is set up with. `try_new` judges it at once; every call judges it again, with what it is lent.
+#![tactic(auto)]
 ghost use Rattle.std.specs.Prelude.{◌≡◌, ◌||◌, ◌+◌, ◌*◌};
 ghost use Rattle.scheme.specs.Checks.{refusal, dimension_fails, length_fails, words_fail};
 ghost use Rattle.check_order.specs.Judged.{JudgesSizes};
@@ -11,7 +12,7 @@ use primus_lattice::LweDimension;
 use primus_reduce::Modulus;
 
 // The basis with its modulus, the dimension n of the input and m of the output.
-#[derive(Drop)]
+#[derive(Clone, Copy)]
 pub struct LweKeySwitchingParameters {
     pub basis: ApproxSignedBasis,
     pub input_dimension: LweDimension,
@@ -19,7 +20,7 @@ pub struct LweKeySwitchingParameters {
 }
 
 // The parameters, or the first number that applies.
-#[derive(Drop)]
+#[derive(Clone, Copy)]
 pub enum LweKeySwitchingParametersAnswer {
     Accepted(LweKeySwitchingParameters),
     Refused(u32),

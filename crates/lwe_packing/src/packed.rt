@@ -10,7 +10,7 @@ use primus_encoding::{PlaintextEmbedding, encode_or_zero};
 use primus_reduce::Modulus;
 
 // What is packed: encoded plaintexts, or messages below t.
-#[derive(Drop)]
+#[derive(Clone, Copy)]
 pub enum Packing {
     Plaintexts,
     Messages(u32, PlaintextEmbedding),

@@ -1,4 +1,5 @@
 // What LWE encryption and openings are set up with.
+#![tactic(auto)]
 mod parameter;
 
 pub use parameter::{

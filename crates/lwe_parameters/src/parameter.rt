@@ -11,14 +11,14 @@ use primus_lattice::LweDimension;
 use primus_reduce::Modulus;
 
 // Dimension n and modulus q: what a phase is taken with.
-#[derive(Drop)]
+#[derive(Clone, Copy)]
 pub struct LwePhaseParameters {
     pub dimension: LweDimension,
     pub modulus: Modulus,
 }
 
 // Dimension n, modulus q and plaintext modulus t: what a decryption is made with.
-#[derive(Drop)]
+#[derive(Clone, Copy)]
 pub struct LweDecryptionParameters {
     pub dimension: LweDimension,
     pub modulus: Modulus,
@@ -26,7 +26,7 @@ pub struct LweDecryptionParameters {
 }
 
 // Dimension n, modulus q and the limit E of errors.
-#[derive(Drop)]
+#[derive(Clone, Copy)]
 pub struct LweEncryptionParameters {
     pub dimension: LweDimension,
     pub modulus: Modulus,
@@ -34,7 +34,7 @@ pub struct LweEncryptionParameters {
 }
 
 // Dimension n, modulus q, plaintext modulus t and the limit E of errors.
-#[derive(Drop)]
+#[derive(Clone, Copy)]
 pub struct LweParameters {
     pub dimension: LweDimension,
     pub modulus: Modulus,
@@ -43,13 +43,13 @@ pub struct LweParameters {
 }
 
 // The parameters, or the first number that applies.
-#[derive(Drop)]
+#[derive(Clone, Copy)]
 pub enum LweEncryptionParametersAnswer {
     Accepted(LweEncryptionParameters),
     Refused(u32),
 }
 
-#[derive(Drop)]
+#[derive(Clone, Copy)]
 pub enum LweParametersAnswer {
     Accepted(LweParameters),
     Refused(u32),

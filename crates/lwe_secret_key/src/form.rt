@@ -10,7 +10,7 @@ use primus_lattice::LweDimension;
 use primus_reduce::Modulus;
 
 // Words below q, or signed numbers c, each for c modulo q.
-#[derive(Drop)]
+#[derive(Clone, Copy)]
 pub enum KeyForm {
     Words,
     Signed,

@@ -1,5 +1,6 @@
 // What a ciphertext carries beside its words: its tally, which bounds its error. The calls that write a ciphertext answer its tag.
 // The field is private: `LweTag::with_tally` is the one way to give a tally.
+#![tactic(auto)]
 ghost use Rattle.std.specs.Prelude.{◌≡◌, false, ◌||◌, ◌+◌, ◌*◌, ◌^◌, ◌<◌, ◌≤◌, ltb};
 ghost use Rattle.scheme.specs.Checks.{refusal};
 ghost use Rattle.scheme.specs.Tally.{Absent, add_tally, good, tally_fails};
@@ -11,7 +12,7 @@ use check_order::{Sizes, Values};
 use primus_reduce::Modulus;
 
 // A public-key, packed or switched ciphertext has none.
-#[derive(Drop)]
+#[derive(Clone, Copy)]
 pub enum Tally {
     Absent,
     Present(u64),
@@ -19,20 +20,20 @@ pub enum Tally {
 
 // One number of 64 bits, 2^64 − 1 where there is no tally: as C holds it and as files save it.
 #[repr(C)]
-#[derive(Drop)]
+#[derive(Clone, Copy)]
 pub struct LweTag {
     tally: u64,
 }
 
 // What a call that writes ciphertexts answers: the tag of each, or the first number that applies.
-#[derive(Drop)]
+#[derive(Clone, Copy)]
 pub enum LweAnswer {
     Written(LweTag),
     Refused(u32),
 }
 
 // Whether a ciphertext is marked good, or the first of 2, 7, 8, 17.
-#[derive(Drop)]
+#[derive(Clone, Copy)]
 pub enum MarkAnswer {
     Mark(bool),
     Refused(u32),

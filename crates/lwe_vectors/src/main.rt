@@ -1,5 +1,6 @@
 // Compares the calls with data/lwe.bin and data/switch.bin, which scripts/lwe_vectors.py and switch_vectors.py make from
 // document 01 and describe, and with data/oracle.bin, which holds what the Rust answered (oracle/sample.py).
+#![tactic(auto)]
 mod lattice;
 mod packed;
 mod parameters;
@@ -84,7 +85,7 @@ fn compared(fd: i32, h: Head, l: Lengths) -> bool {
     right(h, l, &bytes)
 }
 
-#[derive(Drop)]
+#[derive(Clone, Copy)]
 struct Outcome {
     kind: u32,
     right: bool,

@@ -2,7 +2,7 @@
 use primus_encoding::PlaintextEmbedding;
 use primus_reduce::Modulus;
 
-#[derive(Drop)]
+#[derive(Clone, Copy)]
 pub(crate) struct Head {
     pub(crate) kind: u32,
     pub(crate) modulus: Modulus,
@@ -19,7 +19,7 @@ pub(crate) struct Head {
 }
 
 // How many words each operand has.
-#[derive(Drop)]
+#[derive(Clone, Copy)]
 pub(crate) struct Lengths {
     pub(crate) a: usize,
     pub(crate) b: usize,
@@ -30,7 +30,7 @@ pub(crate) struct Lengths {
 }
 
 // Where the operands begin, in bytes; `end` is past the last.
-#[derive(Drop)]
+#[derive(Clone, Copy)]
 pub(crate) struct Places {
     pub(crate) b: usize,
     pub(crate) c: usize,

@@ -1,7 +1,7 @@
 // What a call said: its refusal, or 0, and its answer, or 0.
 use primus_lattice::{LweAnswer, LweTag};
 
-#[derive(Drop)]
+#[derive(Clone, Copy)]
 pub(crate) struct Said {
     pub(crate) refusal: u32,
     pub(crate) value: u32,

@@ -1,5 +1,6 @@
 // A message encrypted and opened, and one that is refused. The expected words are worked out by hand from document 01:
 // encode(5) = 5 × 2^28, so the body is 3 × 1000000007 − 123456789 − 3 + 1342177280 modulo 2^32.
+#![tactic(auto)]
 use checks::WordAnswer;
 use libc::STDOUT_FILENO;
 use primus_encoding::PlaintextEmbedding;

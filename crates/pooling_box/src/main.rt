@@ -1,5 +1,6 @@
 // The main job of a pooling box. Shops send rows of encrypted counts; the box adds the rows that are in order and switches
 // the total to the buying group's key; the buyers open it. The box has no secret key: only `buyers` reads one.
+#![tactic(auto)]
 mod buyers;
 mod reasons;
 mod station;

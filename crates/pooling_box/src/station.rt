@@ -174,7 +174,7 @@ fn parameters(h: Head) -> LweKeySwitchingParametersAnswer {
 }
 
 // What the box sends on: so many words, modulo q.
-#[derive(Drop)]
+#[derive(Clone, Copy)]
 pub(crate) struct Sent {
     pub(crate) words: usize,
     pub(crate) modulus: Modulus,

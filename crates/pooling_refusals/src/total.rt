@@ -12,7 +12,7 @@ use primus_reduce::Modulus;
 use saved_head::Head;
 
 // What every file of a total is made with: q, n and t.
-#[derive(Drop)]
+#[derive(Clone, Copy)]
 pub struct PoolParameters {
     pub modulus: Modulus,
     pub dimension: LweDimension,

@@ -5,31 +5,31 @@ use crate::primitive::ApproxSignedBasis;
 use gadget_constants::{PreparedBasis, Reading, ValueCarry};
 use gadget_digits::SignedDecomposer;
 
-#[derive(Drop)]
+#[derive(Clone, Copy)]
 pub enum ApproxSignedBasisAnswer {
     Accepted(ApproxSignedBasis),
     Refused(u32),
 }
 
-#[derive(Drop)]
+#[derive(Clone, Copy)]
 pub enum ValueCarryAnswer {
     Ready(ValueCarry),
     Refused(u32),
 }
 
-#[derive(Drop)]
+#[derive(Clone, Copy)]
 pub enum DecomposerAnswer {
     Ready(SignedDecomposer),
     Refused(u32),
 }
 
-#[derive(Drop)]
+#[derive(Clone, Copy)]
 pub enum PreparedBasisAnswer {
     Ready(PreparedBasis),
     Refused(u32),
 }
 
-#[derive(Drop)]
+#[derive(Clone, Copy)]
 pub enum ReadingAnswer {
     Read(Reading),
     Refused(u32),

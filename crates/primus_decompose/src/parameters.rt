@@ -7,7 +7,7 @@ use crate::primitive::ApproxSignedBasis;
 use gadget_parameters::{DecompositionBaseLog, RetainedLevels};
 use primus_reduce::Modulus;
 
-#[derive(Drop)]
+#[derive(Clone, Copy)]
 pub struct DecompositionConfig {
     pub log_basis: DecompositionBaseLog,
     pub level_count: RetainedLevels,

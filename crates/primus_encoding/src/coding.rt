@@ -12,7 +12,7 @@ use check_order::Values;
 use checks::WordAnswer;
 use primus_reduce::Modulus;
 
-#[derive(Drop)]
+#[derive(Clone, Copy)]
 pub(crate) enum Coding {
     Encode(PlaintextEmbedding),
     Decode,

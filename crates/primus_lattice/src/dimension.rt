@@ -6,11 +6,11 @@ ghost use Rattle.primus_lattice.specs.Answers.{dimension_answer, given};
 use check_order::Sizes;
 
 // n, the number of mask words.
-#[derive(Drop)]
+#[derive(Clone, Copy)]
 pub struct LweDimension(usize);
 
 // `Refused` holds 6: a dimension is 0 or above 2,048.
-#[derive(Drop)]
+#[derive(Clone, Copy)]
 pub enum LweDimensionAnswer {
     Accepted(LweDimension),
     Refused(u32),

@@ -1,4 +1,5 @@
 // Batches of LWE ciphertexts under a secret key, one after the other. Random masks and errors are lent.
+#![tactic(auto)]
 mod message_batch;
 
 pub use message_batch::{

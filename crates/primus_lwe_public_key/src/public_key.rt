@@ -17,7 +17,7 @@ use primus_lwe::{LweEncryptionParameters, LweParameters};
 use primus_reduce::Modulus;
 
 // Its words are lent: n rows of n + 1.
-#[derive(Drop)]
+#[derive(Clone, Copy)]
 pub struct LwePublicKey {}
 
 // 9, 11: `len` is not n rows of n + 1.

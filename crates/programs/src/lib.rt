@@ -1,4 +1,5 @@
 // What the programs share: a file read whole, a modulus of a record, lines written, words compared.
+#![tactic(auto)]
 ghost use Rattle.std.specs.Prelude.{◌≤◌, length};
 
 use libc::STDOUT_FILENO;
@@ -20,7 +21,7 @@ pub fn say(label: &[u8], number: u64) {
 }
 
 // What was read of a file: whether it could be opened, and how many bytes.
-#[derive(Drop)]
+#[derive(Clone, Copy)]
 pub struct FileRead {
     pub opened: bool,
     pub len: usize,

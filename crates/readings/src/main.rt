@@ -1,4 +1,5 @@
 // The program `readings` of document 01: standard input to standard output.
+#![tactic(auto)]
 use libc::{STDIN_FILENO, STDOUT_FILENO};
 
 fn main() {

@@ -6,14 +6,14 @@ use checks::WordAnswer;
 use primus_decompose::{ApproxSignedBasis, ReadingAnswer};
 
 // The basis that was accepted last, if any.
-#[derive(Drop)]
+#[derive(Clone, Copy)]
 pub enum Session {
     Empty,
     Ready(ApproxSignedBasis),
 }
 
 // `basis` q (0 = native) k base-log L d H T
-#[derive(Drop)]
+#[derive(Clone, Copy)]
 pub struct BasisReply {
     pub modulus: u32,
     pub value_bits: u32,
@@ -25,7 +25,7 @@ pub struct BasisReply {
 }
 
 // `word` a reading ε, and the number of its digits
-#[derive(Drop)]
+#[derive(Clone, Copy)]
 pub struct WordReply {
     pub word: u32,
     pub reading: i64,
@@ -33,7 +33,7 @@ pub struct WordReply {
     pub level_count: usize,
 }
 
-#[derive(Drop)]
+#[derive(Clone, Copy)]
 pub enum Reply {
     Nothing,
     Basis(BasisReply),
@@ -42,7 +42,7 @@ pub enum Reply {
 }
 
 // An answer, of a word its digits besides, lowest first; the session after it, and whether the program goes on.
-#[derive(Drop)]
+#[derive(Clone, Copy)]
 pub struct Turn {
     pub reply: Reply,
     pub digits: [i64; 16],

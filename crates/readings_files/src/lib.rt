@@ -1,4 +1,5 @@
 // The program of document 01 over two file descriptors. What each read leaves and where the reads end is proved; reading and printing are not.
+#![tactic(auto)]
 ghost use Rattle.std.specs.Prelude.{◌≡◌};
 ghost use Rattle.readings_reader.specs.Run.{finished};
 ghost use Rattle.readings_files.specs.Runs.{Stepped, Ran};

@@ -5,7 +5,7 @@ ghost use Rattle.readings_reader.specs.Run.{silent, start, put, one_more, settle
 use readings_core::{Reply, Session, Turn};
 
 // The answer to the last byte, and a command that has begun: its byte, and the operand bytes that came so far.
-#[derive(Drop)]
+#[derive(Clone, Copy)]
 pub struct Reader {
     pub turn: Turn,
     pub begun: bool,

@@ -1,4 +1,5 @@
 // Runs the program on each stored input, run01 to run40, as scripts/readings_runs.py made them.
+#![tactic(auto)]
 ghost use Rattle.std.specs.Prelude.{◌<◌};
 
 use libc::STDOUT_FILENO;

@@ -6,7 +6,7 @@ use readings_core::Turn;
 use readings_reader::Reader;
 
 // The turn after byte i stands at place i, for up to 64 bytes.
-#[derive(Drop)]
+#[derive(Clone, Copy)]
 pub struct Step {
     pub reader: Reader,
     pub turns: [Turn; 64],

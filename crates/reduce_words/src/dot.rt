@@ -6,7 +6,7 @@ ghost use Rattle.reduce_words.specs.Exact.{exact, product};
 use crate::{ops, power};
 
 // A sum of products of words, high × 2^64 + low.
-#[derive(Drop)]
+#[derive(Clone, Copy)]
 pub struct Exact {
     pub low: u64,
     pub high: u64,

@@ -1,4 +1,5 @@
 // The basis, readings and digits, and how many words a caller allocates, for C.
+#![tactic(auto)]
 mod basis;
 mod lengths;
 

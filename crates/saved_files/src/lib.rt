@@ -1,4 +1,5 @@
 // Saved files, read whole into rooms that the caller lends.
+#![tactic(auto)]
 use lwe_tag::LweTag;
 use saved_head::Head;
 
@@ -7,7 +8,7 @@ use saved_head::Head;
 pub const ROOM: usize = 65537;
 
 // What stands under a name: nothing that can be opened, bytes that are no whole file, or a whole one.
-#[derive(Drop)]
+#[derive(Clone, Copy)]
 pub enum Stored {
     Missing,
     Broken,
@@ -15,7 +16,7 @@ pub enum Stored {
 }
 
 // A file's refusal and why, its head, the tag of its first ciphertext, and the checksum of its bytes.
-#[derive(Drop)]
+#[derive(Clone, Copy)]
 pub struct Loaded {
     pub refusal: u32,
     pub stored: Stored,

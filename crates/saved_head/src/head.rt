@@ -7,7 +7,7 @@ ghost use Rattle.saved_head.specs.Head.{signature_fails, kind_fails, beside_fail
 use primus_reduce::Modulus;
 
 // What the words are, and what they were made with; 0 where a number does not apply.
-#[derive(Drop)]
+#[derive(Clone, Copy)]
 pub struct Head {
     pub kind: u32,
     pub modulus: Modulus,

@@ -21,7 +21,7 @@ use gadget_parameters::{DecompositionBaseLog, DecompositionLevelCount, RetainedL
 use primus_reduce::Modulus;
 
 // Three numbers, judged by 1 to 3 and 5 by every call that takes them.
-#[derive(Drop)]
+#[derive(Clone, Copy)]
 pub struct ApproxSignedBasis {
     modulus: Modulus,
     log_basis: DecompositionBaseLog,
