@@ -1,5 +1,6 @@
 // Checks of lengths, each exact for every input.
 #![tactic(auto)]
+
 ghost use Rattle.std.specs.Prelude.{◌≡◌, ◌||◌, ◌+◌, ◌*◌, ◌/◌};
 ghost use Rattle.scheme.specs.Checks.{length_fails, batch_fails};
 

@@ -1,6 +1,7 @@
 // Which numbers apply to a call, and the first of them. A call sets the fields that it judges: first the sizes, and only where none of
 // them applies the values, so that no word of a lent buffer is read before every length is known to fit.
 #![tactic(auto)]
+
 ghost use Rattle.std.specs.Prelude.{◌≡◌};
 ghost use Rattle.scheme.specs.Numbers.{pick};
 ghost use Rattle.check_order.specs.Judged.{FirstSize, FirstValue};

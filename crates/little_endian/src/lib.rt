@@ -1,5 +1,6 @@
 // Little-endian numbers in a run of bytes, as operands and stored files have them. Past the end every byte is 0.
 #![tactic(auto)]
+
 ghost use Rattle.std.specs.Prelude.{◌≡◌, ◌<◌, get_or};
 ghost use Rattle.little_endian.specs.Bytes.{word32, word64};
 

@@ -1,6 +1,7 @@
 // Words modulo an explicit q, powers of two, and sums of products. Not for users: some steps have a `requires`, which the calls of
 // primus_reduce meet.
 #![tactic(auto)]
+
 mod dot;
 mod ops;
 mod power;

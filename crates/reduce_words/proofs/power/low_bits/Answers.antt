@@ -1,0 +1,6 @@
+use Rattle.std.proofs.Common.{arith, rules}
+use Rattle.reduce_words.proofs.Laws.{masked, masked-fits}
+use Rattle.reduce_words.proofs.power.low_bits.Goals as goal
+
+pub returns : goal.returns
+returns c = masked 32 c.args.x c.args.bits c.requires
