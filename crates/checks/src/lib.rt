@@ -1,5 +1,6 @@
 // Checks that several calls share, each exact for every input; check_order has the first number that applies.
 #![tactic(auto)]
+
 ghost use Rattle.std.specs.Prelude.{◌≡◌, ◌||◌};
 ghost use Rattle.scheme.specs.Checks.{modulus_fails, plaintext_fails, small_fails, error_limit_fails, word_fails};
 ghost use Rattle.scheme.specs.Checks.{words_fail, magnitudes_fail, signed_fail, errors_fail, coefficients_fail, message_fails, messages_fail};

@@ -1,6 +1,7 @@
 // The decomposer: windows of the adjusted word, each with the carry from the one below. `write_column` is a step of the calls above, not
 // for users: it has a `requires`.
 #![tactic(auto)]
+
 ghost use Rattle.std.specs.Prelude.{◌≡◌, ◌+◌, ◌*◌, ◌/◌, ◌%◌, ◌^◌, ◌<◌, ◌≤◌, ltb, eqb, length};
 ghost use Rattle.gadget_digits.specs.Walk.{bit};
 ghost use Rattle.gadget_digits.specs.Step.{step_to, step_of};

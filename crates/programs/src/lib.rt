@@ -1,5 +1,6 @@
 // What the programs share: a file read whole, a modulus of a record, lines written, words compared.
 #![tactic(auto)]
+
 ghost use Rattle.std.specs.Prelude.{◌≤◌, length};
 
 use libc::STDOUT_FILENO;

@@ -1,0 +1,6 @@
+use borrow.Author.Rules.{rules}
+use Rattle.gadget_digits.proofs.Steps.{half_test, half_none}
+use Rattle.gadget_digits.proofs.below_half.Goals as goal
+
+pub returns : goal.returns
+returns c = half_none c.args.log c.args.v c.requires c.if-log-lt64.false

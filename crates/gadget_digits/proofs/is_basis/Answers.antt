@@ -1,0 +1,6 @@
+use borrow.Author.Rules.{rules}
+use Rattle.gadget_digits.proofs.Steps.{basis_test, basis_none}
+use Rattle.gadget_digits.proofs.is_basis.Goals as goal
+
+pub returns : goal.returns
+returns c = basis_none c.args.log c.args.v c.requires c.if-log-lt64.false

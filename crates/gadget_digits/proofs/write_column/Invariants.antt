@@ -1,0 +1,13 @@
+use Prim.Native.Nat.{◌≤◌, ◌<◌, ◌-◌, ◌*◌, ◌+◌}
+use mathlib.Core.Path.{◌≡◌, ap, ◌∙◌}
+use native.Mathlib.Omega.{arith}
+use lib.ListN.{length}
+use Rattle.gadget_digits.specs.Column.{after, Column}
+use Rattle.gadget_digits.proofs.Columns.{place_below, column_none, column_next, column_all, after_none, after_next}
+use Rattle.gadget_digits.proofs.write_column.Given as goal
+
+abbrev pub invariant-loop-j : goal.invariant-loop-j
+invariant-loop-j l = (l.j ≤ l.levels) × (l.d ≡ after l.j l.initial.d) × Column l.initial.d l.j l.count l.i l.initial.out l.out
+
+abbrev pub decreases-loop-j : goal.decreases-loop-j
+decreases-loop-j l = l.levels - l.j
