@@ -1,6 +1,7 @@
 // The constants of a gadget basis, and what they make of a word. The functions with a `requires` are not for users: the calls of
 // primus_decompose judge first.
 #![tactic(auto)]
+
 mod prepared;
 mod word;
 

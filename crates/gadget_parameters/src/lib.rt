@@ -1,5 +1,6 @@
 // The kinds of a gadget basis, as in the Rust, and what judges them: 1 to 3, 5.
 #![tactic(auto)]
+
 ghost use Rattle.std.specs.Prelude.{◌≡◌, ◌*◌, ◌^◌, ltb};
 ghost use Rattle.scheme.specs.Modulus.{bits};
 ghost use Rattle.scheme.specs.Basis.{full_count};

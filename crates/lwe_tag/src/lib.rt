@@ -1,6 +1,7 @@
 // What a ciphertext carries beside its words: its tally, which bounds its error. The calls that write a ciphertext answer its tag.
 // The field is private: `LweTag::with_tally` is the one way to give a tally.
 #![tactic(auto)]
+
 ghost use Rattle.std.specs.Prelude.{◌≡◌, false, ◌||◌, ◌+◌, ◌*◌, ◌^◌, ◌<◌, ◌≤◌, ltb};
 ghost use Rattle.scheme.specs.Checks.{refusal};
 ghost use Rattle.scheme.specs.Tally.{Absent, add_tally, good, tally_fails};

@@ -1,0 +1,9 @@
+use Rattle.std.proofs.Common.{◌≡◌, ℕ, ◌-◌, ◌<◌, ◌≤◌, length, get_or, refl, arith, length-set}
+use Rattle.scheme.proofs.Lists.{is-tabulate}
+use Rattle.gadget_constants.specs.Prepared.{scalar_at}
+use Rattle.gadget_constants.proofs.Getters.{store_next}
+use Rattle.gadget_constants.proofs.prepared.scalars_from.Goals as goal
+
+pub returns : goal.returns
+returns c =
+    is-tabulate 16 (scalar_at c.args.d c.args.log c.args.levels) c.loop-j.w c.loop-j.invariant.1 (λ i h. c.loop-j.invariant.2 i (omega arith))

@@ -1,0 +1,25 @@
+use Rattle.std.proofs.Common.{◌+◌, ◌%◌, ◌^◌, ◌<◌, ◌≤◌, refl, ◌∙◌, mod-lt, arith, pow_pos, to_z-of_z, w64, rules}
+use lib.Pow.{pow-lt}
+use Rattle.scheme.proofs.Modulus.{size-most}
+use Rattle.primus_reduce.specs.Ring.{meant}
+use Rattle.gadget_constants.proofs.Constants.{dropped-most, init_ready}
+use Rattle.gadget_constants.proofs.Signs.{read_is, lost_most}
+use Rattle.gadget_constants.proofs.word.read.Goals as goal
+
+-- no goal for rem-rest : tie.Need-nonzero-rem-rest
+
+pub error_bound-bound-requires : goal.error_bound-bound-requires
+error_bound-bound-requires c =
+    let few : c.args.p.drop_bits < 32 = dropped-most c.args.p c.requires.0 c.args.a c.requires.1 in
+    omega (arith, few)
+
+pub power-requires : goal.power-requires
+power-requires c =
+    let few : c.args.p.drop_bits < 32 = dropped-most c.args.p c.requires.0 c.args.a c.requires.1 in
+    omega (arith, few)
+
+pub returns : goal.returns
+returns c =
+    read_is c.args.p c.requires.0 c.args.a c.init_value_carry-s.result (c.init_value_carry-s.ensures ∙ init_ready c.args.p c.requires.0 c.args.a c.requires.1) c.error_bound-bound.result c.power.result _ c.lifted_by-lost.result
+    c.error_bound-bound.ensures c.power.ensures refl (rw c.size.ensures.0 at c.lifted_by-lost.ensures) _ _
+    (to_z-of_z {w = w64} (search rules) ∙ c.minus.ensures) (to_z-of_z {w = w64} (search rules) ∙ c.minus-2.ensures)

@@ -1,0 +1,6 @@
+use borrow.Author.Rules.{rules}
+use Rattle.gadget_parameters.proofs.Laws.{base_test, base-over}
+use Rattle.gadget_parameters.proofs.below_basis.Goals as goal
+
+pub returns : goal.returns
+returns c = base-over c.args.log c.args.q c.ranges.q.fits c.if-log-lt32.false

@@ -1,0 +1,13 @@
+use Prim.Native.Nat.{◌-◌}
+use native.Mathlib.Omega.{arith}
+use lib.ListN.{length}
+use Rattle.scheme.proofs.InPlace.{Filled, filled_end}
+use Rattle.primus_encoding.specs.Coding.{coded}
+use Rattle.primus_encoding.proofs.Laws.{message_at, coded-start, coded-next}
+use Rattle.primus_encoding.proofs.coding.write_words.Given as goal
+
+abbrev pub invariant-loop-i : goal.invariant-loop-i
+invariant-loop-i l = Filled (coded l.coding l.t l.modulus l.input l.initial.output) l.initial.output l.output l.i
+
+abbrev pub decreases-loop-i : goal.decreases-loop-i
+decreases-loop-i l = length l.initial.output - l.i
