@@ -1,6 +1,7 @@
 // Rows of exact sums of 64 bits, which stand for words modulo q and are reduced late. A crate below, not for users: its steps
 // have demands.
 #![tactic(auto)]
+
 ghost use Rattle.std.specs.Prelude.{◌≡◌, ◌+◌, ◌-◌, ◌*◌, ◌%◌, ◌^◌, ◌<◌, ◌≤◌, length};
 ghost use mathlib.Core.List.{map, zip_with};
 ghost use Rattle.key_switch_tile.specs.Rows.{Spare, Less};

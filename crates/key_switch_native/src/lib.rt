@@ -1,6 +1,7 @@
 // The kernel for the native modulus, 2^32: words add and multiply with wrap, on purpose.
 // A crate below, not for users: its call has demands.
 #![tactic(auto)]
+
 ghost use Rattle.std.specs.Prelude.{◌≡◌, ◌+◌, ◌-◌, ◌*◌, ◌%◌, ◌^◌, ◌≤◌, length};
 ghost use Rattle.scheme.specs.Switch.{switched_batch};
 ghost use Rattle.primus_reduce.specs.declared.modulus.Modulus.TheVariants.{Native};

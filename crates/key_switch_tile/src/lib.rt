@@ -1,6 +1,7 @@
 // A tile of up to eight ciphertexts, as both kernels switch it: its lanes and its beginning.
 // A crate below, not for users: its calls have demands.
 #![tactic(auto)]
+
 ghost use Rattle.std.specs.Prelude.{◌≡◌, ◌+◌, ◌*◌, ◌<◌, ◌≤◌, eqb, length};
 ghost use Rattle.scheme.specs.Numbers.{pick, tabulate};
 ghost use Rattle.key_switch_tile.specs.Tile.{tile, Lanes, begun};

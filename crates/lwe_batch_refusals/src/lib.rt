@@ -1,6 +1,7 @@
 // What refuses a call on a batch: the first number of the table of checks that applies, or 0. For the calls of primus_lwe_batch,
 // which act after it.
 #![tactic(auto)]
+
 mod message_batch;
 mod sizes;
 

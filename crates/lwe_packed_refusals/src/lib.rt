@@ -1,6 +1,7 @@
 // What refuses a call on a packed ciphertext: the first number of the table of checks that applies, or 0. For the calls of
 // primus_lwe_packed, which act after it.
 #![tactic(auto)]
+
 mod message_packed;
 mod packed;
 

@@ -1,6 +1,7 @@
 // The innermost steps of packed ciphertexts: bodies under one rotated mask, and their phases. Not for users: the steps have a
 // `requires`, which the calls above meet after they have judged.
 #![tactic(auto)]
+
 mod packed;
 
 pub use packed::{Packing, phases, write_packed};

@@ -1,5 +1,6 @@
 // What LWE encryption and openings are set up with.
 #![tactic(auto)]
+
 mod parameter;
 
 pub use parameter::{

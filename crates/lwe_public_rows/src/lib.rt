@@ -1,6 +1,7 @@
 // The rows of a public key: written, and added to a ciphertext or taken away from it. Not for users: the steps have a `requires`,
 // which the calls of primus_lwe_public_key meet after they have judged.
 #![tactic(auto)]
+
 mod rows;
 
 pub use rows::{write_public, write_zeros};

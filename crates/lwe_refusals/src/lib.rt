@@ -1,6 +1,7 @@
 // What refuses a call on one ciphertext: the first number of the table of checks that applies, or 0. For the calls of primus_lwe,
 // which act after it.
 #![tactic(auto)]
+
 mod borrowed;
 mod message;
 

@@ -1,6 +1,7 @@
 // Packed ciphertexts: n shared mask words, then at most n bodies.
 // Body i uses the mask rotated right by i, its first i words negated.
 #![tactic(auto)]
+
 ghost use Rattle.std.specs.Prelude.{◌≡◌, ◌||◌, ◌+◌, ◌-◌, ◌<◌, ◌≤◌, length, get_or};
 ghost use Rattle.scheme.specs.Lwe.{extracted};
 ghost use Rattle.scheme.specs.Checks.{packed_fails, refusal};

@@ -1,6 +1,7 @@
 // A lent secret key of either form, and the innermost steps of encryption and phases under it. Not for users: some steps have a
 // `requires`, which the calls above meet after they have judged.
 #![tactic(auto)]
+
 mod form;
 mod steps;
 

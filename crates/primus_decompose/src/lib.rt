@@ -1,5 +1,6 @@
 // Approximate signed decomposition: the gadget basis, readings and digits, for words of 32 bits.
 #![tactic(auto)]
+
 mod error;
 mod parameters;
 mod primitive;

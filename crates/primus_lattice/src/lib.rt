@@ -1,5 +1,6 @@
 // LWE ciphertexts over words of 32 bits: the dimension, sums, and the tag beside the words.
 #![tactic(auto)]
+
 mod dimension;
 mod single_message;
 

@@ -1,5 +1,6 @@
 // LWE encryption over words of 32 bits. Random masks and errors are lent.
 #![tactic(auto)]
+
 mod secret_key;
 
 pub use lwe_parameters::{

@@ -1,5 +1,6 @@
 // Batches of LWE ciphertexts under a secret key, one after the other. Random masks and errors are lent.
 #![tactic(auto)]
+
 mod message_batch;
 
 pub use message_batch::{

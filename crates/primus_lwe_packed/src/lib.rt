@@ -1,5 +1,6 @@
 // Packed ciphertexts: n shared mask words, then a body for each of at most n messages. Masks and errors are lent.
 #![tactic(auto)]
+
 mod message_packed;
 mod packed;
 

@@ -1,5 +1,6 @@
 // The words and tags of saved keys and ciphertexts, read from lent bytes: docs/FILES.md. Past the end every byte is 0.
 #![tactic(auto)]
+
 mod words;
 
 pub use words::{signed_at, tag_at, word_at, words_to};

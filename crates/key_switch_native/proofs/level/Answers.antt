@@ -1,0 +1,7 @@
+use Rattle.std.proofs.Common.{◌-◌, ◌^◌, arith}
+use Rattle.key_switch_tile.proofs.Levels.{Rowing, rowing_start, rowing_end, in_acc, in_lanes, part_wide, rowing_on}
+use Rattle.key_switch_native.proofs.level.Goals as goal
+
+pub loop-t-preserved : goal.loop-t-preserved
+loop-t-preserved c =
+    rowing_on c.loop-t.invariant c.loop-t-test.true c.step-s.ensures c.accumulate_entry.ensures

@@ -1,0 +1,9 @@
+use Rattle.std.proofs.Common.{◌-◌, ◌^◌, arith}
+use Rattle.key_switch_tile.proofs.Places.{Sinking, sinking_start, sinking_end, in_key, level_asks, sinking_on}
+use Rattle.key_switch_native.proofs.place.Goals as goal
+
+pub loop-j-init : goal.loop-j-init
+loop-j-init c = sinking_start _ _ c.requires
+
+pub loop-j-preserved : goal.loop-j-preserved
+loop-j-preserved c = c.loop-j.invariant.done.same

@@ -1,0 +1,16 @@
+use mathlib.Core.List.{zip_with}
+use Rattle.std.proofs.Common.{◌-◌, length, arith}
+use Rattle.scheme.proofs.InPlace.{Filled, filled_start, filled_end, zipped_next, length_zip}
+use Rattle.key_switch_native.proofs.Rows.{wrapped, less_wrapped}
+use Rattle.key_switch_native.proofs.take_multiple.Goals as goal
+
+pub loop-k-init : goal.loop-k-init
+loop-k-init c = filled_start _ _ (length_zip _ _ _ c.requires)
+
+pub loop-k-preserved : goal.loop-k-preserved
+loop-k-preserved c =
+    zipped_next (wrapped c.args.digit) c.args.out.now c.args.entry.now c.loop-k.out c.loop-k.k c.requires c.loop-k.invariant _ (omega arith) c.less.ensures
+
+pub returns : goal.returns
+returns c =
+    less_wrapped c.args.digit c.args.out.now c.args.entry.now _ c.requires (filled_end _ _ _ _ c.loop-k.invariant (omega arith))

@@ -1,0 +1,17 @@
+use mathlib.Core.Path.{◌∙◌}
+use Prim.Native.Nat.{◌+◌, ◌-◌, ◌*◌}
+use native.Mathlib.Omega.{arith}
+use lib.ListN.{length-drop}
+use lib.Seq.{length-take-le}
+use Rattle.scheme.proofs.Rows.{filling_room, filling_end}
+use Rattle.key_switch_tile.proofs.Lanes.{in_run, Starting, starting_start, starting_on}
+use Rattle.key_switch_tile.proofs.start.Goals as goal
+
+-- no goal for part-start-row-end : tie.Need-slice-bounds-start-row-end invariant-loop decreases-loop
+
+pub loop-t-init : goal.loop-t-init
+loop-t-init c = starting_start _ _ _ _ _ c.requires.2
+
+pub loop-t-preserved : goal.loop-t-preserved
+loop-t-preserved c =
+    starting_on _ _ _ _ _ _ _ c.loop-t.invariant c.loop-t-test.true _ c.start_row.ensures

@@ -1,0 +1,18 @@
+use Prim.Native.Nat.{◌-◌}
+use native.Mathlib.Omega.{arith}
+use lib.ListN.{length}
+use Rattle.scheme.specs.Numbers.{tabulate}
+use Rattle.scheme.specs.Lwe.{words, packed_phase}
+use Rattle.scheme.proofs.InPlace.{Filled, filled_end, tabled_start, tabled_next}
+use Rattle.primus_reduce.specs.Ring.{size_of}
+use Rattle.lwe_packing.proofs.packed.phases.Goals as goal
+
+pub loop-i-init : goal.loop-i-init
+loop-i-init c = tabled_start _ _
+
+pub loop-i-preserved : goal.loop-i-preserved
+loop-i-preserved c =
+    tabled_next _ _ _ _ c.loop-i.invariant _ (omega arith) c.body_phase.ensures
+
+pub returns : goal.returns
+returns c = filled_end _ _ _ _ c.loop-i.invariant (omega arith)

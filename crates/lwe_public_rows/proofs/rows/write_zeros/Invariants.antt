@@ -1,0 +1,16 @@
+use mathlib.Core.Path.{◌≡◌}
+use Prim.Native.Nat.{◌+◌, ◌*◌, ◌-◌, ◌≤◌}
+use native.Mathlib.Omega.{arith}
+use lib.ListN.{length}
+use Rattle.scheme.specs.Lwe.{signed, secret_of}
+use Rattle.scheme.proofs.Rows.{Filling, filling_room}
+use Rattle.primus_reduce.specs.Ring.{size_of}
+use Rattle.lwe_secret_key.specs.Key.{key_of}
+use Rattle.lwe_public_rows.proofs.Laws.{zero_row, zeros_start, zeros_mask, zeros_sizes, zeros_next, zeros_end}
+use Rattle.lwe_public_rows.proofs.rows.write_zeros.Given as goal
+
+abbrev pub invariant-loop-i : goal.invariant-loop-i
+invariant-loop-i l = Filling (zero_row (size_of l.modulus) l.n l.masks (secret_of (key_of l.form l.signed l.masks)) (signed l.errors)) (l.n + 1) l.n l.initial.out l.out l.i
+
+abbrev pub decreases-loop-i : goal.decreases-loop-i
+decreases-loop-i l = l.n - l.i

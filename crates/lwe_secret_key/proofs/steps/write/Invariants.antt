@@ -1,0 +1,14 @@
+use mathlib.Core.Path.{sym, ◌∙◌}
+use mathlib.Core.List.{[], ◌∷◌, ◌++◌}
+use Prim.Native.Nat.{◌+◌, ◌-◌, ◌≤◌}
+use native.Mathlib.Omega.{arith}
+use lib.ListN.{length, set}
+use Rattle.scheme.proofs.InPlace.{Filled, filled_start, filled_next, filled_end}
+use Rattle.lwe_secret_key.proofs.Laws.{made_length, made_mask, made_body}
+use Rattle.lwe_secret_key.proofs.steps.write.Given as goal
+
+abbrev pub invariant-loop-i : goal.invariant-loop-i
+invariant-loop-i l = (l.i ≤ length l.mask) × Filled (l.mask ++ (l.body ∷ [])) l.initial.out l.out l.i
+
+abbrev pub decreases-loop-i : goal.decreases-loop-i
+decreases-loop-i l = length l.mask - l.i
