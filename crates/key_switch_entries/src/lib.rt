@@ -1,5 +1,6 @@
 // The entries of a key, judged and written. A crate below, not for users: its call has demands.
 #![tactic(auto)]
+
 ghost use Rattle.std.specs.Prelude.{◌≡◌, ◌||◌, ◌*◌, length};
 ghost use Rattle.scheme.specs.Lwe.{key_length};
 ghost use Rattle.scheme.specs.Checks.{refusal, length_fails, error_limit_fails, words_fail, key_fails};

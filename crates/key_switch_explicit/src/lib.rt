@@ -1,5 +1,6 @@
 // The kernel for an explicit modulus: exact sums, reduced late. A crate below, not for users: its call has demands.
 #![tactic(auto)]
+
 ghost use Rattle.std.specs.Prelude.{◌≡◌, ◌+◌, ◌-◌, ◌*◌, ◌/◌, ◌^◌, ◌<◌, ◌≤◌, length};
 ghost use Rattle.primus_reduce.specs.declared.modulus.Modulus.TheVariants.{Explicit};
 ghost use Rattle.scheme.specs.Switch.{switched_batch};

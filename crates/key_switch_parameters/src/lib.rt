@@ -1,5 +1,6 @@
 // What a key switch is set up with. `try_new` judges it at once; every call judges it again, with what it is lent.
 #![tactic(auto)]
+
 ghost use Rattle.std.specs.Prelude.{◌≡◌, ◌||◌, ◌+◌, ◌*◌};
 ghost use Rattle.scheme.specs.Checks.{refusal, dimension_fails, length_fails, words_fail};
 ghost use Rattle.check_order.specs.Judged.{JudgesSizes};

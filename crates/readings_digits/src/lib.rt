@@ -1,5 +1,6 @@
 // The digits of a word as the program shows them: signed, lowest first. Not for users: readings_core has judged the word.
 #![tactic(auto)]
+
 ghost use Rattle.std.specs.Prelude.{◌≡◌, pos, ltb};
 ghost use Rattle.scheme.specs.Numbers.{pick};
 ghost use Rattle.scheme.specs.Checks.{refusal};

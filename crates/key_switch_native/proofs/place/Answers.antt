@@ -6,4 +6,4 @@ pub loop-j-init : goal.loop-j-init
 loop-j-init c = sinking_start _ _ c.requires
 
 pub loop-j-preserved : goal.loop-j-preserved
-loop-j-preserved c = c.loop-j.invariant.done.same
+loop-j-preserved c = sinking_on c.loop-j.invariant c.loop-j-test.true c.level-next.ensures

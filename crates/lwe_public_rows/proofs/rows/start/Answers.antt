@@ -16,4 +16,4 @@ loop-k-preserved c =
     tabled_next (start_word (size_of c.args.modulus) c.args.n (signed c.args.errors.now) c.args.plaintext) c.args.out.now _ c.loop-k.k c.loop-k.invariant _ (omega arith) c.start_word.ensures
 
 pub returns : goal.returns
-returns c = c.loop-k.invariant.same
+returns c = filled_end _ _ _ _ c.loop-k.invariant (omega arith)

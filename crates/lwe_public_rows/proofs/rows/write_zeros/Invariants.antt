@@ -10,7 +10,7 @@ use Rattle.lwe_public_rows.proofs.Laws.{zero_row, zeros_start, zeros_mask, zeros
 use Rattle.lwe_public_rows.proofs.rows.write_zeros.Given as goal
 
 abbrev pub invariant-loop-i : goal.invariant-loop-i
-invariant-loop-i l = Filling (zero_row (size_of l.modulus) l.n l.masks (secret_of (key_of l.form l.signed l.masks)) (signed l.errors)) (l.n + 1) l.n l.initial.out l.out l.i
+invariant-loop-i l = Filling (zero_row (size_of l.modulus) l.n l.masks (secret_of (key_of l.form l.words l.signed)) (signed l.errors)) (l.n + 1) l.n l.initial.out l.out l.i
 
 abbrev pub decreases-loop-i : goal.decreases-loop-i
 decreases-loop-i l = l.n - l.i

@@ -12,10 +12,10 @@ use Rattle.primus_lwe.proofs.Coded.{encoded_at}
 use Rattle.lwe_secret_key.proofs.Runs.{Rows, rows_start, rows_mask, rows_more, rows_done}
 use Rattle.primus_lwe_batch.proofs.message_batch.write_messages.Given as goal
 
--- PARAMS ['out₀', 'embedding', 'secret', 'masks', 'errors', 'messages', 'modulus', 't', 'n', 'i₀', 'none', 'out', 'i'] vs ['l.embedding', 'l.secret', 'l.masks', 'l.errors', 'l.messages', 'l.modulus', 'l.t', 'l.n', 'l.initial.out', 'l.initial.i', 'l.out', 'l.i']
+-- PARAMS ['out₀', 'embedding', 'secret', 'masks', 'errors', 'messages', 'modulus', 't', 'n', 'i₀', 'none', 'out', 'i'] vs ['l.initial.out', 'l.embedding', 'l.secret', 'l.masks', 'l.errors', 'l.messages', 'l.modulus', 'l.t', 'l.n', 'l.initial.i', 'l.out', 'l.i']
 abbrev pub invariant-loop-i : goal.invariant-loop-i
-invariant-loop-i l = Rows (size_of l.modulus) (length l.secret) l.masks (words l.secret) (signed l.errors) (λ l.i. pos (encode_word l.embedding (size_of l.modulus) l.t (get_or l.messages l.i 0))) (length l.errors) l.initial.out l.out l.i
+invariant-loop-i l = Rows (size_of l.modulus) (length l.secret) l.masks (words l.secret) (signed l.errors) (λ i'. pos (encode_word l.embedding (size_of l.modulus) l.t (get_or l.messages i' 0))) (length l.errors) l.initial.out l.out l.i
 
--- PARAMS ['out₀', 'embedding', 'secret', 'masks', 'errors', 'messages', 'modulus', 't', 'n', 'i₀', 'none', 'out', 'i'] vs ['l.embedding', 'l.secret', 'l.masks', 'l.errors', 'l.messages', 'l.modulus', 'l.t', 'l.n', 'l.initial.out', 'l.initial.i', 'l.out', 'l.i']
+-- PARAMS ['out₀', 'embedding', 'secret', 'masks', 'errors', 'messages', 'modulus', 't', 'n', 'i₀', 'none', 'out', 'i'] vs ['l.initial.out', 'l.embedding', 'l.secret', 'l.masks', 'l.errors', 'l.messages', 'l.modulus', 'l.t', 'l.n', 'l.initial.i', 'l.out', 'l.i']
 abbrev pub decreases-loop-i : goal.decreases-loop-i
 decreases-loop-i l = length l.errors - l.i

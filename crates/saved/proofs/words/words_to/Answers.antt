@@ -7,8 +7,6 @@ use Rattle.scheme.proofs.Lists.{length-tabulate, get_d_tabulate}
 use Rattle.saved.specs.Layout.{file_word, file_words}
 use Rattle.saved.proofs.words.words_to.Goals as goal
 
--- spec has 9 arguments, and there are 8 needs: ['(λ c. c.before.loop.invariant.same)', '(λ c. filled_end _ _ _ _ c.before.loop.invariant (omega arith))']
-
 pub loop-i-init : goal.loop-i-init
 loop-i-init c =
     filled_start (file_words c.args.bytes.now (length c.args.out.now)) c.args.out.now (length-tabulate (length c.args.out.now) (file_word c.args.bytes.now))
@@ -19,4 +17,4 @@ loop-i-preserved c =
     (c.word_at.ensures ∙ sym (get_d_tabulate (length c.args.out.now) (file_word c.args.bytes.now) c.loop-i.i (omega arith)))
 
 pub returns : goal.returns
-returns c = ?
+returns c = filled_end _ _ _ _ c.loop-i.invariant (omega arith)

@@ -1,0 +1,33 @@
+use mathlib.Core.Path.{◌≡◌, refl, sym, ap, ◌∙◌}
+use mathlib.Core.List.{List, [], ◌∷◌}
+use Prim.Native.Nat.{ℕ}
+use lib.ListN.{length}
+use borrow.Author.Rules.{rules}
+use borrow.Author.Tests.{eq-eqb}
+use Rattle.scheme.specs.Reading.{threshold}
+use Rattle.scheme.specs.Checks.{refusal, row, length_fails, first_in}
+use Rattle.scheme.proofs.Checks.{length_ok}
+use Rattle.scheme.proofs.Order.{passed, passed_part, only, refused, done}
+use Rattle.primus_decompose.specs.declared.primitive.basis.ApproxSignedBasis.{ApproxSignedBasis}
+use Rattle.primus_decompose.specs.Answers.{basis, rows, threshold_answer}
+use Rattle.primus_encoding.specs.Answers.{or_zero}
+use Rattle.c_basis.specs.Bases.{sized, output_rows, constants}
+use Rattle.c_basis.proofs.basis.write_basis.Goals as goal
+
+pub returns-then-r-ne0 : goal.returns-then-r-ne0
+returns-then-r-ne0 c =
+    let number : c.sizes_refusal-r.result ≡ refusal (output_rows c.args.basis (length c.args.out.now) 6) = whole c.args.basis (length c.args.out.now) c.sizes_refusal-r.ensures in
+    record { writes = refused number c.if-r-ne0.true }
+
+pub write_constants-requires : goal.write_constants-requires
+write_constants-requires c =
+    fits c.args.basis (length c.args.out.now) (none c)
+
+pub returns : goal.returns
+returns c =
+    record {
+      writes =
+          done (none c)
+          (c.write_constants.ensures
+          ∙ ap (λ t. constants c.args.basis t) (c.or_zero-threshold.ensures ∙ ap or_zero c.threshold.ensures ∙ told c.args.basis (length c.args.out.now) (none c)));
+    }

@@ -1,0 +1,12 @@
+use mathlib.Core.Path.{sym, ◌∙◌, ap, subst}
+use Prim.Native.Nat.{◌<◌}
+use lib.ListN.{length}
+use borrow.Author.Rules.{rules}
+use Rattle.primus_reduce.specs.Ring.{size_of}
+use Rattle.key_switch_tile.proofs.Walks.{q_pos, begun-length}
+use Rattle.key_switch_explicit.proofs.Walking.{reduced}
+use Rattle.key_switch_explicit.proofs.switch_tile.Goals as goal
+
+pub returns : goal.returns
+returns c =
+    reduced c.requires.1 (ap size_of c.requires.2) c.walk.ensures c.reduce_to.ensures
