@@ -1,5 +1,6 @@
 // Batches, a tile at a time, each by the kernel of its modulus. A crate below, not for users: its call has demands.
 #![tactic(auto)]
+
 ghost use Rattle.std.specs.Prelude.{◌≡◌, ◌+◌, ◌*◌, ◌≤◌, min, length};
 ghost use Rattle.scheme.specs.Switch.{switched_batch};
 ghost use Rattle.gadget_constants.specs.Prepared.{basis_in};

@@ -1,5 +1,6 @@
 // One ciphertext of a saved file added to that of a total, and the tallies of both. Steps of pooling, not for users.
 #![tactic(auto)]
+
 mod rows;
 mod tallies;
 

@@ -8,21 +8,21 @@ use Rattle.key_switch_explicit.proofs.walk.Goals as goal
 
 pub cost_of-cost-requires : goal.cost_of-cost-requires
 cost_of-cost-requires c =
-    (levels-least c.requires.1, omega (arith, cost_small c.requires.1 _ _ (ap size_of c.requires.2) c.half_of_lem.ensures))
+    (levels-least c.requires.1, omega (arith, cost_small c.requires.1 _ _ (ap size_of c.requires.2) c.half_of-half.ensures))
 
 pub loop-i-init : goal.loop-i-init
 loop-i-init c =
-    let costs : Costs c.args.p c.args.q c.half_of_lem.result c.cost_of-cost.result (18446744073709551615 - c.cost_of-cost.result) = record { modulus = ap size_of c.requires.2; halved = c.half_of_lem.ensures; costs = c.cost_of-cost.ensures; leaves = refl } in
+    let costs : Costs c.args.p c.args.q c.half_of-half.result c.cost_of-cost.result (18446744073709551615 - c.cost_of-cost.result) = record { modulus = ap size_of c.requires.2; halved = c.half_of-half.ensures; costs = c.cost_of-cost.ensures; leaves = refl } in
     walking_start c.requires.1 costs c.requires.3
 
 pub keep_room-ceiling-requires : goal.keep_room-ceiling-requires
 keep_room-ceiling-requires c =
-    let costs : Costs c.args.p c.args.q c.half_of_lem.result c.cost_of-cost.result (18446744073709551615 - c.cost_of-cost.result) = record { modulus = ap size_of c.requires.2; halved = c.half_of_lem.ensures; costs = c.cost_of-cost.ensures; leaves = refl } in
+    let costs : Costs c.args.p c.args.q c.half_of-half.result c.cost_of-cost.result (18446744073709551615 - c.cost_of-cost.result) = record { modulus = ap size_of c.requires.2; halved = c.half_of-half.ensures; costs = c.cost_of-cost.ensures; leaves = refl } in
     room_asks c.requires.1 costs
 
 pub place-requires : goal.place-requires
 place-requires c =
-    let costs : Costs c.args.p c.args.q c.half_of_lem.result c.cost_of-cost.result (18446744073709551615 - c.cost_of-cost.result) = record { modulus = ap size_of c.requires.2; halved = c.half_of_lem.ensures; costs = c.cost_of-cost.ensures; leaves = refl } in
+    let costs : Costs c.args.p c.args.q c.half_of-half.result c.cost_of-cost.result (18446744073709551615 - c.cost_of-cost.result) = record { modulus = ap size_of c.requires.2; halved = c.half_of-half.ensures; costs = c.cost_of-cost.ensures; leaves = refl } in
     let h = c.loop-i-test.true in
     let kept = c.keep_room-ceiling.ensures in (
       walk_asks c.requires.1 costs c.loop-i.invariant h kept c.lanes_of-lanes.ensures c.requires.0,
@@ -35,5 +35,5 @@ overflow_add-at c =
 
 pub loop-i-preserved : goal.loop-i-preserved
 loop-i-preserved c =
-    let costs : Costs c.args.p c.args.q c.half_of_lem.result c.cost_of-cost.result (18446744073709551615 - c.cost_of-cost.result) = record { modulus = ap size_of c.requires.2; halved = c.half_of_lem.ensures; costs = c.cost_of-cost.ensures; leaves = refl } in
+    let costs : Costs c.args.p c.args.q c.half_of-half.result c.cost_of-cost.result (18446744073709551615 - c.cost_of-cost.result) = record { modulus = ap size_of c.requires.2; halved = c.half_of-half.ensures; costs = c.cost_of-cost.ensures; leaves = refl } in
     walking_on c.requires.1 costs c.loop-i.invariant c.loop-i-test.true c.keep_room-ceiling.ensures c.lanes_of-lanes.ensures c.place.ensures

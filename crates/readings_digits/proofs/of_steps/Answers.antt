@@ -1,13 +1,12 @@
-use mathlib.Core.Path.{◌≡◌, refl, ap, ◌∙◌}
-use Prim.Native.Nat.{ℕ, ◌≤◌, ◌<◌, ◌-◌}
+use mathlib.Core.Path.{refl, ap, ◌∙◌}
 use native.Mathlib.Omega.{arith}
 use mir.Facts.{to_z-of_z}
+use mir.Syntax.{w64}
 use borrow.Author.Rules.{rules}
 use lib.Dec.{ltb}
 use lib.IntN.{pos}
-use lib.ListN.{length, get_or, length-set}
+use lib.ListN.{length-set}
 use Rattle.scheme.specs.Numbers.{pick}
-use Rattle.gadget_digits.specs.Column.{after}
 use Rattle.gadget_digits.specs.Step.{step_of}
 use Rattle.gadget_digits.proofs.Columns.{after_none, after_next}
 use Rattle.primus_decompose.specs.Answers.{signed_digit}
@@ -25,7 +24,7 @@ loop-j-preserved c =
       simp length-set c.loop-j.invariant.1,
       ap (λ x. x.next) e ∙ after_next c.loop-j.j c.args.start c.loop-j.d c.loop-j.invariant.2,
       store_next c.loop-j.digits (stepped_digit c.args.b c.args.start) c.loop-j.j _ (omega arith)
-          (to_z-of_z (search rules) ∙ c.shown.ensures
+          (to_z-of_z {w = w64} (search rules) ∙ c.shown.ensures
           ∙ ap (λ w. pick (ltb c.loop-j.j c.args.b.level_count.0) (signed_digit c.args.b w) (pos 0))
           (ap (λ x. x.digit) e ∙ ap (λ x. (step_of x).digit) c.loop-j.invariant.2))
           c.loop-j.invariant.3,

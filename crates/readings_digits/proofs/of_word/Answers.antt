@@ -1,5 +1,4 @@
 use mathlib.Core.Path.{◌∙◌}
-use borrow.Author.Rules.{rules}
 use Rattle.readings_digits.proofs.Numbers.{shown_digits, no_refusal}
 use Rattle.readings_digits.proofs.of_word.Goals as goal
 

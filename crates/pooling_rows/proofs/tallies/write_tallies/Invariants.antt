@@ -1,0 +1,14 @@
+use mathlib.Core.Path.{ap, ◌∙◌}
+use Prim.Native.Nat.{◌-◌}
+use native.Mathlib.Omega.{arith}
+use lib.ListN.{length}
+use Rattle.scheme.proofs.InPlace.{Filled, filled_end, tabled_start, tabled_next}
+use Rattle.saved.specs.Layout.{saved_tag}
+use Rattle.pooling_rows.specs.Rows.{saved_tallies}
+use Rattle.pooling_rows.proofs.tallies.write_tallies.Given as goal
+
+abbrev pub invariant-loop-i : goal.invariant-loop-i
+invariant-loop-i l = Filled (saved_tallies (length l.initial.tallies) l.bytes) l.initial.tallies l.tallies l.i
+
+abbrev pub decreases-loop-i : goal.decreases-loop-i
+decreases-loop-i l = length l.initial.tallies - l.i
