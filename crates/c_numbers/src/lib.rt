@@ -1,5 +1,6 @@
 // What the plain numbers of a C call stand for: for the exports of saigagalena.
 #![tactic(auto)]
+
 mod lengths;
 mod parameters;
 

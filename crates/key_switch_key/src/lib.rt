@@ -1,5 +1,6 @@
 // The key of a key switch: from one secret to another, an entry for each mask place and level.
 #![tactic(auto)]
+
 mod key;
 
 pub use key::{EntryAnswer, LweKeySwitchingKey};

@@ -1,5 +1,6 @@
 // What refuses a saved file that begins a total or is added to one. For the calls of pooling, which act after it.
 #![tactic(auto)]
+
 mod total;
 
 pub use total::{PoolParameters, begin_refusal, total_refusal};

@@ -1,5 +1,6 @@
 // The commands of document 01: commands of one byte, operands little-endian, one line of answer each.
 #![tactic(auto)]
+
 ghost use Rattle.std.specs.Prelude.{◌≡◌, ◌≤◌};
 ghost use Rattle.readings_commands.specs.Commands.{operands, over, basis_command, word_command, turn_of};
 

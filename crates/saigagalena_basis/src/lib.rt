@@ -1,5 +1,6 @@
 // The basis, readings and digits, and how many words a caller allocates, for C.
 #![tactic(auto)]
+
 mod basis;
 mod lengths;
 

@@ -7,10 +7,8 @@ use Rattle.lwe_secret_key.specs.Key.{key_of}
 use Rattle.key_switch_entries.proofs.Entries.{Entering, Entered, entering, levels-some, level_in, row_asks, entered_start, entered_on, entered_end}
 use Rattle.key_switch_entries.proofs.write_entries.Given as goal
 
--- PARAMS ['out₀', 'form', 'words', 'signed', 'output-key', 'masks', 'errors', 'p', 'modulus', 'm', 'weights', 'k₀', 't18', 'out', 'k'] vs ['l.initial.out', 'l.form', 'l.words', 'l.signed', 'l.output_key', 'l.masks', 'l.errors', 'l.p', 'l.modulus', 'l.m', 'l.weights', 'l.initial.k', 'l.out', 'l.k']
 abbrev pub invariant-loop-k : goal.invariant-loop-k
-invariant-loop-k l = Entered l.p l.m (secret_of (key_of l.form l.words l.signed)) (words_of output-key) l.errors l.masks l.initial.out l.out l.k
+invariant-loop-k l = Entered l.p l.m (secret_of (key_of l.form l.words l.signed)) (words_of l.output_key) l.errors l.masks l.initial.out l.out l.k
 
--- PARAMS ['out₀', 'form', 'words', 'signed', 'output-key', 'masks', 'errors', 'p', 'modulus', 'm', 'weights', 'k₀', 't18', 'out', 'k'] vs ['l.initial.out', 'l.form', 'l.words', 'l.signed', 'l.output_key', 'l.masks', 'l.errors', 'l.p', 'l.modulus', 'l.m', 'l.weights', 'l.initial.k', 'l.out', 'l.k']
 abbrev pub decreases-loop-k : goal.decreases-loop-k
 decreases-loop-k l = length l.errors - l.k

@@ -14,6 +14,18 @@ use Rattle.primus_encoding.specs.Answers.{or_zero}
 use Rattle.c_basis.specs.Bases.{sized, output_rows, constants}
 use Rattle.c_basis.proofs.basis.write_basis.Goals as goal
 
+module _ (b : ApproxSignedBasis) (room : ℕ) where
+  -- no values are judged
+  whole : {r : ℕ} → sized b room 6 r → r ≡ refusal (output_rows b room 6)
+  unfolding first_in
+  whole e = only (output_rows b room 6) e refl
+
+  fits : refusal (output_rows b room 6) ≡ 0 → room ≡ 6
+  fits e = length_ok room 6 (passed (output_rows b room 6) e 11 tt)
+
+  told : refusal (output_rows b room 6) ≡ 0 → or_zero (threshold_answer b) ≡ threshold (basis b)
+  told e = rw (eq-eqb (refusal (rows b)) 0 (passed_part (rows b) (row (length_fails room 6) 11 ∷ []) e))
+
 pub returns-then-r-ne0 : goal.returns-then-r-ne0
 returns-then-r-ne0 c =
     let number : c.sizes_refusal-r.result ≡ refusal (output_rows c.args.basis (length c.args.out.now) 6) = whole c.args.basis (length c.args.out.now) c.sizes_refusal-r.ensures in
@@ -21,13 +33,17 @@ returns-then-r-ne0 c =
 
 pub write_constants-requires : goal.write_constants-requires
 write_constants-requires c =
-    fits c.args.basis (length c.args.out.now) (none c)
+    let number : c.sizes_refusal-r.result ≡ refusal (output_rows c.args.basis (length c.args.out.now) 6) = whole c.args.basis (length c.args.out.now) c.sizes_refusal-r.ensures in
+    let none : refusal (output_rows c.args.basis (length c.args.out.now) 6) ≡ 0 = sym number ∙ c.if-r-ne0.false in
+    fits c.args.basis (length c.args.out.now) none
 
 pub returns : goal.returns
 returns c =
+    let number : c.sizes_refusal-r.result ≡ refusal (output_rows c.args.basis (length c.args.out.now) 6) = whole c.args.basis (length c.args.out.now) c.sizes_refusal-r.ensures in
+    let none : refusal (output_rows c.args.basis (length c.args.out.now) 6) ≡ 0 = sym number ∙ c.if-r-ne0.false in
     record {
       writes =
-          done (none c)
+          done none
           (c.write_constants.ensures
-          ∙ ap (λ t. constants c.args.basis t) (c.or_zero-threshold.ensures ∙ ap or_zero c.threshold.ensures ∙ told c.args.basis (length c.args.out.now) (none c)));
+          ∙ ap (λ t. constants c.args.basis t) (c.or_zero-threshold.ensures ∙ ap or_zero c.threshold.ensures ∙ told c.args.basis (length c.args.out.now) none));
     }

@@ -10,6 +10,7 @@ use Rattle.checks.proofs.Laws.{any_fails, any_none}
 use Rattle.scheme.specs.Numbers.{tabulate}
 use Rattle.pooling_rows.specs.Rows.{saved_fail}
 use Rattle.pooling_rows.proofs.Laws.{scan_hit, scan_more, scan_end}
+use Rattle.pooling_rows.proofs.tallies.saved_refused.Goals.{then-tag_refused, else-tag_refused}
 use Rattle.pooling_rows.proofs.tallies.saved_refused.Goals as goal
 
 pub loop-i-init : goal.loop-i-init
@@ -21,10 +22,7 @@ loop-i-preserved c =
     let e = c.tag_refused.ensures in
     let p : ℕ → Bool = λ k. not (tally_fails cap (tally_of (saved_tag c.args.bytes.now k))) in (
       omega arith,
-      ⊎_elim
-          (λ w. w.1 ∙ scan_hit p c.args.places (λ k. k) c.loop-i.i (omega arith) (ap not (sym e ∙ w.0.taken)))
-          (λ w. w.1 ∙ scan_more p c.args.places (λ k. k) c.loop-i.i (omega arith) c.loop-i.invariant.1 (ap not (sym e ∙ w.0.left)))
-          c.if-tag_refused.branch,
+      elim c.if-tag_refused.branch [ then-tag_refused w ↦ w.any-is ∙ scan_hit p c.args.places (λ k. k) c.loop-i.i (omega arith) (ap not (sym e ∙ w.if-tag_refused.true)) | else-tag_refused w ↦ w.any-is ∙ scan_more p c.args.places (λ k. k) c.loop-i.i (omega arith) c.loop-i.invariant.1 (ap not (sym e ∙ w.if-tag_refused.false)) ],
     )
 
 pub returns : goal.returns

@@ -8,6 +8,7 @@ use Rattle.checks.proofs.Laws.{any_fails, any_none}
 use Rattle.scheme.specs.Numbers.{tabulate}
 use Rattle.pooling_rows.specs.Rows.{place_fails, tallies_fail}
 use Rattle.pooling_rows.proofs.Laws.{scan_hit, scan_more, scan_end}
+use Rattle.pooling_rows.proofs.tallies.tallies_refused.Goals.{then-place_refused, else-place_refused}
 use Rattle.pooling_rows.proofs.tallies.tallies_refused.Goals as goal
 
 pub loop-i-init : goal.loop-i-init
@@ -19,10 +20,7 @@ loop-i-preserved c =
     let e = c.place_refused.ensures in
     let p : ℕ → Bool = λ k. not (place_fails c.args.tallies.now c.args.bytes.now k) in (
       omega arith,
-      ⊎_elim
-          (λ w. w.1 ∙ scan_hit p (length c.args.tallies.now) (λ k. k) c.loop-i.i (omega arith) (ap not (sym e ∙ w.0.taken)))
-          (λ w. w.1 ∙ scan_more p (length c.args.tallies.now) (λ k. k) c.loop-i.i (omega arith) c.loop-i.invariant.1 (ap not (sym e ∙ w.0.left)))
-          c.if-place_refused.branch,
+      elim c.if-place_refused.branch [ then-place_refused w ↦ w.any-is ∙ scan_hit p (length c.args.tallies.now) (λ k. k) c.loop-i.i (omega arith) (ap not (sym e ∙ w.if-place_refused.true)) | else-place_refused w ↦ w.any-is ∙ scan_more p (length c.args.tallies.now) (λ k. k) c.loop-i.i (omega arith) c.loop-i.invariant.1 (ap not (sym e ∙ w.if-place_refused.false)) ],
     )
 
 pub returns : goal.returns

@@ -1,0 +1,16 @@
+use mathlib.Core.Path.{◌≡◌, refl, sym, ◌∙◌}
+use native.Mathlib.Omega.{arith}
+use Rattle.scheme.proofs.Order.{told, given}
+use Rattle.checks.specs.declared.WordAnswer.TheVariants.{Refused}
+use Rattle.c_numbers.proofs.Allocated.{Rows, rows}
+use Rattle.c_numbers.proofs.lengths.ciphertext_words.Goals as goal
+
+pub overflow_add-result : goal.overflow_add-result
+overflow_add-result c =
+    let ready : Rows c.args.n = rows c.args.n (sym c.dimension_refusal-r.ensures ∙ c.if-r-ne0.false) in
+    omega (arith, ready.most)
+
+pub overflow_cast-result : goal.overflow_cast-result
+overflow_cast-result c =
+    let ready : Rows c.args.n = rows c.args.n (sym c.dimension_refusal-r.ensures ∙ c.if-r-ne0.false) in
+    omega (arith, ready.most)

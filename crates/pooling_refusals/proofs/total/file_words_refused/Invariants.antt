@@ -1,0 +1,17 @@
+use mathlib.Core.Logic.{⊎_elim}
+use mathlib.Core.Path.{◌≡◌, ◌∙◌}
+use Prim.Native.Nat.{◌≤◌, ◌-◌}
+use native.Mathlib.Omega.{arith}
+use lib.Dec.{ltb}
+use Rattle.checks.proofs.Laws.{any_fails, any_none}
+use Rattle.primus_reduce.specs.Ring.{size_of}
+use Rattle.saved.specs.Layout.{file_word, file_words}
+use Rattle.pooling_rows.proofs.Laws.{scan_hit, scan_more}
+use Rattle.pooling_refusals.proofs.Laws.{words_end, word_hit, word_passes}
+use Rattle.pooling_refusals.proofs.total.file_words_refused.Given as goal
+
+abbrev pub invariant-loop-i : goal.invariant-loop-i
+invariant-loop-i l = (l.i ≤ l.count) × (l.any ≡ any_fails (λ x. ltb x (size_of l.q)) (file_words l.bytes l.count) l.i)
+
+abbrev pub decreases-loop-i : goal.decreases-loop-i
+decreases-loop-i l = l.count - l.i
