@@ -1,5 +1,6 @@
 // The program of document 01, byte by byte: which bytes make a command, and what falls due after each.
 #![tactic(auto)]
+
 mod reader;
 
 pub use reader::Reader;

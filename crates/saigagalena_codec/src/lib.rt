@@ -1,5 +1,6 @@
 // The rounded codec, for C. The promises are those of primus_encoding, of the moduli that the numbers give.
 #![tactic(auto)]
+
 ghost use Rattle.std.specs.Prelude.{◌≡◌};
 ghost use Rattle.primus_reduce.specs.Ring.{modulus_for};
 ghost use Rattle.primus_encoding.specs.Answers.{EncodesSlice, DecodesSlice};

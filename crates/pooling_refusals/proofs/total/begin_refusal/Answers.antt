@@ -4,8 +4,8 @@ use Rattle.pooling_refusals.proofs.total.begin_refusal.Goals as goal
 
 pub returns-then-foreign : goal.returns-then-foreign
 returns-then-foreign c =
-    foreign_is (λ c. begin_rows c.args.params c c.args.bytes.now c.args.len c.args.places) c.head_of-h.ensures c.foreign.ensures c.if-foreign.true
+    foreign_is (λ h'. begin_rows c.args.params h' c.args.bytes.now c.args.len c.args.places) c.head_of-h.ensures c.foreign.ensures c.if-foreign.true
 
 pub returns : goal.returns
 returns c =
-    own_is (λ c. begin_rows c.args.params c c.args.bytes.now c.args.len c.args.places) c.head_of-h.ensures c.foreign.ensures c.if-foreign.false c.begin_judged.ensures
+    own_is (λ h'. begin_rows c.args.params h' c.args.bytes.now c.args.len c.args.places) c.head_of-h.ensures c.foreign.ensures c.if-foreign.false c.begin_judged.ensures

@@ -1,0 +1,80 @@
+// The public key, for C. The promises are those of primus_lwe_public_key, of the parameters that the numbers give.
+ghost use Rattle.scheme.specs.Lwe.{Signed, Words};
+ghost use Rattle.primus_lwe_public_key.specs.Answers.{EncryptsPublic, EncryptsPublicMessage, GeneratesPublicKey};
+ghost use Rattle.c_numbers.specs.Numbers.{embedding_for, encryption_with, messages_with};
+ghost use Rattle.c_answers.specs.Service.{Tells, outcome_of};
+
+use c_answers::LweOutcome;
+
+// n encryptions of 0 in out. Refuses by 2, 6, 9, 11, 12, 13, 14, 15.
+#[unsafe(no_mangle)]
+pub extern "C" fn saigagalena_public_key_generate(
+    modulus: u32,
+    n: usize,
+    error_limit: u32,
+    secret: &[u32],
+    masks: &[u32],
+    errors: &[i32],
+    out: &mut [u32],
+) -> u32
+    ensures { GeneratesPublicKey (encryption_with modulus n error_limit) (Words secret.now)
+        masks.now errors.now out.old result out.new }
+{
+    saigagalena_public_key::saigagalena_public_key_generate(modulus, n, error_limit, secret, masks, errors, out)
+}
+
+// saigagalena_public_key_generate under a signed key.
+#[unsafe(no_mangle)]
+pub extern "C" fn saigagalena_public_key_generate_signed(
+    modulus: u32,
+    n: usize,
+    error_limit: u32,
+    secret: &[i32],
+    masks: &[u32],
+    errors: &[i32],
+    out: &mut [u32],
+) -> u32
+    ensures { GeneratesPublicKey (encryption_with modulus n error_limit) (Signed secret.now)
+        masks.now errors.now out.old result out.new }
+{
+    saigagalena_public_key::saigagalena_public_key_generate_signed(modulus, n, error_limit, secret, masks, errors, out)
+}
+
+// An encryption of p from n + 1 errors and n coefficients; no tally. Refuses by 2, 6, 9, 11, 12, 13, 14, 15.
+#[unsafe(no_mangle)]
+pub extern "C" fn saigagalena_public_key_encrypt_encoded(
+    modulus: u32,
+    n: usize,
+    error_limit: u32,
+    key: &[u32],
+    errors: &[i32],
+    coefficients: &[i32],
+    plaintext: u32,
+    out: &mut [u32],
+) -> LweOutcome
+    ensures { Tells outcome_of (λ x. EncryptsPublic (encryption_with modulus n error_limit) key.now
+        errors.now coefficients.now plaintext out.old x out.new) result }
+{
+    saigagalena_public_key::saigagalena_public_key_encrypt_encoded(modulus, n, error_limit, key, errors, coefficients, plaintext, out)
+}
+
+// An encryption of encode(m) under the public key; no tally. Refuses by 2, 6, 7, 8, 9, 11, 12, 13, 14, 15, 16.
+#[unsafe(no_mangle)]
+pub extern "C" fn saigagalena_public_key_encrypt_message(
+    modulus: u32,
+    n: usize,
+    t: u32,
+    error_limit: u32,
+    centered: u32,
+    key: &[u32],
+    errors: &[i32],
+    coefficients: &[i32],
+    message: u32,
+    out: &mut [u32],
+) -> LweOutcome
+    ensures { Tells outcome_of (λ x. EncryptsPublicMessage (messages_with modulus n t error_limit)
+        (embedding_for centered) key.now errors.now coefficients.now message
+        out.old x out.new) result }
+{
+    saigagalena_public_key::saigagalena_public_key_encrypt_message(modulus, n, t, error_limit, centered, key, errors, coefficients, message, out)
+}
