@@ -1,11 +1,14 @@
 // Compares the library's answers with data/digits.bin, which scripts/digits_vectors.py makes from document 01 alone, and
 // with data/oracle.bin, which holds what the Rust answered (oracle/sample.py).
 #![tactic(auto)]
+
 mod basis;
 mod bytes;
 mod word;
 
 use basis::Held;
+use std::io::Read;
+use std::rt::Files;
 
 #[derive(Clone, Copy)]
 struct State {
@@ -25,9 +28,9 @@ fn one_if(b: bool) -> u64 {
     if b { 1 } else { 0 }
 }
 
-fn on_basis(fd: i32, s: State) -> Turn {
+fn on_basis(input: &mut impl Read, s: State) -> Turn {
     let mut r = [0u8; 94];
-    let n = io::read_full(fd, &mut r);
+    let n = programs::read_full(input, &mut r);
     let held = s.held;
     let c = basis::compare(&r, held);
     let held = c.held;
@@ -56,36 +59,36 @@ fn counted(s: State, right: bool, more: bool) -> Turn {
     }
 }
 
-fn on_word(fd: i32, s: State) -> Turn {
+fn on_word(input: &mut impl Read, s: State) -> Turn {
     let mut r = [0u8; 85];
-    let n = io::read_full(fd, &mut r);
+    let n = programs::read_full(input, &mut r);
     let held = s.held;
     let right = word::compare(held, &r);
     counted(s, right && n == 85, n == 85)
 }
 
-fn on_short_word(fd: i32, s: State) -> Turn {
+fn on_short_word(input: &mut impl Read, s: State) -> Turn {
     let mut r = [0u8; 28];
-    let n = io::read_full(fd, &mut r);
+    let n = programs::read_full(input, &mut r);
     let held = s.held;
     let right = word::compare_short(held, &r);
     counted(s, right && n == 28, n == 28)
 }
 
 // One record. The last is a zero byte; anything else is counted as wrong.
-fn one(fd: i32, s: State) -> Turn {
+fn one(input: &mut impl Read, s: State) -> Turn {
     let mut tag = [0u8; 1];
-    let n = io::read_full(fd, &mut tag);
+    let n = programs::read_full(input, &mut tag);
     let t = tag[0];
     if n == 1 {
         if t == 1 {
-            return on_basis(fd, s);
+            return on_basis(input, s);
         }
         if t == 2 {
-            return on_word(fd, s);
+            return on_word(input, s);
         }
         if t == 3 {
-            return on_short_word(fd, s);
+            return on_short_word(input, s);
         }
         if t == 0 {
             return Turn {
@@ -97,11 +100,11 @@ fn one(fd: i32, s: State) -> Turn {
     counted(s, false, false)
 }
 
-fn all(fd: i32, before: State) -> State {
+fn all(input: &mut impl Read, before: State) -> State {
     let mut s = before;
     let mut turns = u64::MAX;
     while turns > 0 {
-        let t = one(fd, s);
+        let t = one(input, s);
         s = t.state;
         if !t.more {
             return s;
@@ -112,27 +115,23 @@ fn all(fd: i32, before: State) -> State {
 }
 
 // The records of a file, counted on; a file that cannot be opened is one that is wrong.
-fn file(path: &[u8], s: State) -> State {
-    let fd = os::open_read(path);
-    if fd < 0 {
-        os::fail(path);
-        return counted(s, false, false).state;
+fn file(rt: &(impl Files + Eprint), path: &[u8], s: State) -> State {
+    match programs::open(rt, path) {
+        Some(mut file) => all(&mut file, s),
+        None => counted(s, false, false).state,
     }
-    let after = all(fd, s);
-    libc::close(fd);
-    after
 }
 
-fn main() {
+fn main(rt: HostRuntime) {
     let none = State {
         held: Held::Nothing,
         bases: 0,
         words: 0,
         wrong: 0,
     };
-    let made = file(b"digits.bin", none);
-    let s = file(b"oracle.bin", made);
-    programs::say(b"bases ", s.bases);
-    programs::say(b"words ", s.words);
-    programs::say(b"wrong ", s.wrong);
+    let made = file(&rt, b"digits.bin", none);
+    let s = file(&rt, b"oracle.bin", made);
+    programs::say(&rt, b"bases ", s.bases);
+    programs::say(&rt, b"words ", s.words);
+    programs::say(&rt, b"wrong ", s.wrong);
 }

@@ -1,6 +1,7 @@
 // Compares the calls with data/lwe.bin and data/switch.bin, which scripts/lwe_vectors.py and switch_vectors.py make from
 // document 01 and describe, and with data/oracle.bin, which holds what the Rust answered (oracle/sample.py).
 #![tactic(auto)]
+
 mod lattice;
 mod packed;
 mod parameters;
@@ -11,6 +12,8 @@ mod switch;
 
 use record::{Head, Lengths};
 use said::Said;
+use std::io::Read;
+use std::rt::Files;
 
 // The call of a record, on operands of the record's lengths.
 fn call(h: Head, a: &[u32], b: &[u32], c: &[u32], d: &[i32], e: &[i32], out: &mut [u32]) -> Said {
@@ -72,14 +75,14 @@ fn right(h: Head, l: Lengths, bytes: &[u8; 65536]) -> bool {
 }
 
 // The words of a record, read and compared.
-fn compared(fd: i32, h: Head, l: Lengths) -> bool {
+fn compared(input: &mut impl Read, h: Head, l: Lengths) -> bool {
     let mut bytes = [0u8; 65536];
     let p = record::places_of(l, h.refusal);
     let end = p.end;
     if 65536 < end {
         return false;
     }
-    if io::read_full(fd, &mut bytes[0..end]) < end {
+    if programs::read_full(input, &mut bytes[0..end]) < end {
         return false;
     }
     right(h, l, &bytes)
@@ -92,9 +95,9 @@ struct Outcome {
 }
 
 // One record, or kind 0 at the end; a file that breaks off counts as a record that differs.
-fn turn(fd: i32) -> Outcome {
+fn turn(input: &mut impl Read) -> Outcome {
     let mut r = [0u8; 60];
-    if io::read_full(fd, &mut r) < 60 {
+    if programs::read_full(input, &mut r) < 60 {
         return Outcome {
             kind: 0,
             right: false,
@@ -110,17 +113,17 @@ fn turn(fd: i32) -> Outcome {
     }
     Outcome {
         kind,
-        right: compared(fd, h, record::lengths_of(&r)),
+        right: compared(input, h, record::lengths_of(&r)),
     }
 }
 
-fn say(name: &[u8], n: u32) {
-    programs::say(name, n as u64);
+fn say(rt: &impl Print, name: &[u8], n: u32) {
+    programs::say(rt, name, n as u64);
 }
 
-fn differs(number: u32, kind: u32) {
-    say(b"first that differs: record ", number);
-    say(b"of kind ", kind);
+fn differs(rt: &impl Print, number: u32, kind: u32) {
+    say(rt, b"first that differs: record ", number);
+    say(rt, b"of kind ", kind);
 }
 
 fn count(counts: &mut [u32; 40], kind: u32) {
@@ -131,12 +134,12 @@ fn count(counts: &mut [u32; 40], kind: u32) {
 }
 
 // Compares records up to the first that differs; the answer is whether all are equal.
-fn all(fd: i32, counts: &mut [u32; 40]) -> bool {
+fn all(rt: &impl Print, input: &mut impl Read, counts: &mut [u32; 40]) -> bool {
     let mut number = 0;
     while number < u32::MAX {
-        let t = turn(fd);
+        let t = turn(input);
         if !t.right {
-            differs(number, t.kind);
+            differs(rt, number, t.kind);
             return false;
         }
         if t.kind == 0 {
@@ -148,34 +151,30 @@ fn all(fd: i32, counts: &mut [u32; 40]) -> bool {
     false
 }
 
-fn print(counts: [u32; 40]) {
+fn print(rt: &impl Print, counts: [u32; 40]) {
     let mut kind = 1;
     while kind < 33 {
-        programs::print(b"kind ", kind as u64);
-        say(b": ", counts[kind]);
+        programs::print(rt, b"kind ", kind as u64);
+        say(rt, b": ", counts[kind]);
         kind += 1;
     }
 }
 
 // Every record of a file is equal.
-fn file(path: &[u8], counts: &mut [u32; 40]) -> bool {
-    let fd = os::open_read(path);
-    if fd < 0 {
-        os::fail(path);
-        return false;
+fn file(rt: &(impl Files + Print + Eprint), path: &[u8], counts: &mut [u32; 40]) -> bool {
+    match programs::open(rt, path) {
+        Some(mut file) => all(rt, &mut file, counts),
+        None => false,
     }
-    let equal = all(fd, counts);
-    libc::close(fd);
-    equal
 }
 
-fn main() {
+fn main(rt: HostRuntime) {
     let mut counts = [0u32; 40];
-    let encryption = file(b"lwe.bin", &mut counts);
-    let switching = file(b"switch.bin", &mut counts);
-    let rust = file(b"oracle.bin", &mut counts);
-    print(counts);
+    let encryption = file(&rt, b"lwe.bin", &mut counts);
+    let switching = file(&rt, b"switch.bin", &mut counts);
+    let rust = file(&rt, b"oracle.bin", &mut counts);
+    print(&rt, counts);
     if encryption && switching && rust {
-        programs::write(b"all equal\n");
+        programs::write(&rt, b"all equal\n");
     }
 }

@@ -5,28 +5,40 @@ use primus_lwe::LweDecryptionParameters;
 use primus_lwe_batch::decrypt_message_batch_to;
 use primus_reduce::Modulus;
 use saved_head::Head;
+use std::rt::Files;
 
-fn print_total(place: u64, count: u32) {
-    programs::print(b"  casting ", place);
-    programs::say(b": ", count as u64);
+fn print_total(rt: &impl Print, place: u64, count: u32) {
+    programs::print(rt, b"  casting ", place);
+    programs::say(rt, b": ", count as u64);
 }
 
-fn print_totals(counts: [u32; 4]) {
-    programs::write(b"the buyers open it with the group's secret:\n");
-    print_total(1, counts[0]);
-    print_total(2, counts[1]);
-    print_total(3, counts[2]);
-    print_total(4, counts[3]);
+fn print_totals(rt: &impl Print, counts: [u32; 4]) {
+    programs::write(rt, b"the buyers open it with the group's secret:\n");
+    print_total(rt, 1, counts[0]);
+    print_total(rt, 2, counts[1]);
+    print_total(rt, 3, counts[2]);
+    print_total(rt, 4, counts[3]);
     programs::write(
+        rt,
         b"a switched ciphertext has no tally, so the opened total itself is never marked good:\n",
     );
     programs::write(
+        rt,
         b"it rests on the marks above, which count one rounding a casting and the errors that\n",
     );
-    programs::write(b"the shops declare, and on the bound of the switching error\n");
+    programs::write(
+        rt,
+        b"the shops declare, and on the bound of the switching error\n",
+    );
 }
 
-fn with_dimension(dimension: LweDimension, modulus: Modulus, secret: &[u32], sent: &[u32]) -> u32 {
+fn with_dimension(
+    rt: &impl Print,
+    dimension: LweDimension,
+    modulus: Modulus,
+    secret: &[u32],
+    sent: &[u32],
+) -> u32 {
     let params = LweDecryptionParameters {
         dimension,
         modulus,
@@ -35,13 +47,13 @@ fn with_dimension(dimension: LweDimension, modulus: Modulus, secret: &[u32], sen
     let mut counts = [0u32; 4];
     let r = decrypt_message_batch_to(params, secret, sent, &mut counts);
     if r == 0 {
-        print_totals(counts);
+        print_totals(rt, counts);
     }
     r
 }
 
 // Opens the first `words` words of what was sent, under a secret that is in order.
-fn with_secret(h: Head, secret: &[u32], sent: &[u32], words: usize) -> u32 {
+fn with_secret(rt: &impl Print, h: Head, secret: &[u32], sent: &[u32], words: usize) -> u32 {
     let n = h.words as usize;
     let modulus = h.modulus;
     if secret.len() < n {
@@ -52,6 +64,7 @@ fn with_secret(h: Head, secret: &[u32], sent: &[u32], words: usize) -> u32 {
     }
     match LweDimension::try_new(h.n) {
         LweDimensionAnswer::Accepted(dimension) => with_dimension(
+            rt,
             dimension,
             modulus,
             &secret[0..n],
@@ -67,17 +80,22 @@ fn is_other(h: Head, modulus: Modulus) -> bool {
     h.kind != 1 || given.number() != modulus.number()
 }
 
-pub(crate) fn open(sent: &[u32], words: usize, modulus: Modulus) {
+pub(crate) fn open(
+    rt: &(impl Files + Print + Eprint),
+    sent: &[u32],
+    words: usize,
+    modulus: Modulus,
+) {
     let mut secret = [0u32; 16368];
-    let l = saved_files::load(b"group_secret", &mut secret);
+    let l = saved_files::load(rt, b"group_secret", &mut secret);
     let h = l.head;
     let stored = l.stored;
     if l.refusal != 0 || is_other(h, modulus) {
-        reasons::told_file(b"group_secret", 19, stored);
+        reasons::told_file(rt, b"group_secret", 19, stored);
         return;
     }
-    let r = with_secret(h, &secret, sent, words);
+    let r = with_secret(rt, h, &secret, sent, words);
     if r != 0 {
-        reasons::told(b"the opening", r);
+        reasons::told(rt, b"the opening", r);
     }
 }

@@ -1,6 +1,7 @@
 // The main job of a pooling box. Shops send rows of encrypted counts; the box adds the rows that are in order and switches
 // the total to the buying group's key; the buyers open it. The box has no secret key: only `buyers` reads one.
 #![tactic(auto)]
+
 mod buyers;
 mod reasons;
 mod station;
@@ -11,12 +12,12 @@ pub(crate) const PLAINTEXT_MODULUS: u32 = 1024;
 
 pub(crate) const PLACES: usize = 4;
 
-fn main() {
+fn main(rt: HostRuntime) {
     let mut sent = [0u32; 8196];
-    let s = station::run(&mut sent);
+    let s = station::run(&rt, &mut sent);
     let modulus = s.modulus;
     if s.words == 0 {
         return;
     }
-    buyers::open(&sent, s.words, modulus);
+    buyers::open(&rt, &sent, s.words, modulus);
 }

@@ -8,6 +8,7 @@ use primus_lattice::{LweAnswer, LweDimension, LweTag, MarkAnswer, Tally};
 use primus_reduce::Modulus;
 use saved_files::{ROOM, Stored};
 use saved_head::Head;
+use std::rt::Files;
 
 fn digit(number: u32) -> u8 {
     (48 + number % 10) as u8
@@ -29,6 +30,7 @@ fn add_row(
 
 // A shop's row goes into the total of `rows` rows whole, or not at all: how many there are then.
 fn add_shop(
+    rt: &(impl Files + Print + Eprint),
     params: PoolParameters,
     rows: u32,
     name: &[u8],
@@ -36,10 +38,15 @@ fn add_shop(
     total: &mut [u32],
     tallies: &mut [u64],
 ) -> u32 {
-    let f = programs::read_file(name, bytes);
+    let f = programs::read_file(rt, name, bytes);
     let len = f.len;
     let r = add_row(params, rows, &bytes[0..len], total, tallies);
-    reasons::told_file(name, r, saved_files::stored_as(f.opened, &bytes[0..len]));
+    reasons::told_file(
+        rt,
+        name,
+        r,
+        saved_files::stored_as(f.opened, &bytes[0..len]),
+    );
     if r == 0 {
         return std::num::wrapping_add_u32(rows, 1);
     }
@@ -48,6 +55,7 @@ fn add_shop(
 
 // How many of the shops' rows were added.
 fn add_shops(
+    rt: &(impl Files + Print + Eprint),
     params: PoolParameters,
     bytes: &mut [u8],
     total: &mut [u32],
@@ -56,56 +64,65 @@ fn add_shops(
     let mut rows = 0;
     for number in 1..10 {
         let name = [b's', b'h', b'o', b'p', b'_', digit(number)];
-        rows = add_shop(params, rows, &name, bytes, total, tallies);
+        rows = add_shop(rt, params, rows, &name, bytes, total, tallies);
     }
     rows
 }
 
 // Document 01's mark of one place. It counts one rounding, however many rows were added.
-fn print_mark(place: u64, number: u64, modulus: Modulus) {
+fn print_mark(rt: &impl Print, place: u64, number: u64, modulus: Modulus) {
     let tag = LweTag::with_tally(number);
-    programs::print(b"  casting ", place);
+    programs::print(rt, b"  casting ", place);
     match tag.tally() {
-        Tally::Absent => programs::write(b": no tally"),
-        Tally::Present(a) => programs::print(b": tally ", a),
+        Tally::Absent => programs::write(rt, b": no tally"),
+        Tally::Present(a) => programs::print(rt, b": tally ", a),
     }
     match tag.is_good(modulus, PLAINTEXT_MODULUS) {
-        MarkAnswer::Mark(good) => print_good(good),
-        MarkAnswer::Refused(r) => reasons::refused(r),
+        MarkAnswer::Mark(good) => print_good(rt, good),
+        MarkAnswer::Refused(r) => reasons::refused(rt, r),
     }
 }
 
-fn print_good(good: bool) {
+fn print_good(rt: &impl Print, good: bool) {
     if good {
-        programs::write(b", marked good\n");
+        programs::write(rt, b", marked good\n");
         return;
     }
-    programs::write(b", not marked good\n");
+    programs::write(rt, b", not marked good\n");
 }
 
-fn print_marks(tallies: [u64; 4], modulus: Modulus) {
-    print_mark(1, tallies[0], modulus);
-    print_mark(2, tallies[1], modulus);
-    print_mark(3, tallies[2], modulus);
-    print_mark(4, tallies[3], modulus);
+fn print_marks(rt: &impl Print, tallies: [u64; 4], modulus: Modulus) {
+    print_mark(rt, 1, tallies[0], modulus);
+    print_mark(rt, 2, tallies[1], modulus);
+    print_mark(rt, 3, tallies[2], modulus);
+    print_mark(rt, 4, tallies[3], modulus);
 }
 
 // Adds the rows and prints the marks; how many rows were added.
-fn collect(pool: PoolParameters, modulus: Modulus, total: &mut [u32]) -> u32 {
+fn collect(
+    rt: &(impl Files + Print + Eprint),
+    pool: PoolParameters,
+    modulus: Modulus,
+    total: &mut [u32],
+) -> u32 {
     let mut bytes = [0u8; ROOM];
     let mut tallies = [0u64; 4];
-    programs::write(b"the box adds the shops' rows of four encrypted counts:\n");
-    let rows = add_shops(pool, &mut bytes, total, &mut tallies);
-    programs::say(b"rows added: ", rows as u64);
+    programs::write(
+        rt,
+        b"the box adds the shops' rows of four encrypted counts:\n",
+    );
+    let rows = add_shops(rt, pool, &mut bytes, total, &mut tallies);
+    programs::say(rt, b"rows added: ", rows as u64);
     if rows != 0 {
-        programs::write(b"the total before the switch:\n");
-        print_marks(tallies, modulus);
+        programs::write(rt, b"the total before the switch:\n");
+        print_marks(rt, tallies, modulus);
     }
     rows
 }
 
 // Adds, and switches the total into `sent`: the number of words sent on, 0 where there is nothing to send.
 fn serve(
+    rt: &(impl Files + Print + Eprint),
     params: LweKeySwitchingParameters,
     modulus: Modulus,
     key: &[u32],
@@ -118,15 +135,18 @@ fn serve(
         dimension,
         plaintext_modulus: PLAINTEXT_MODULUS,
     };
-    if collect(pool, modulus, total) == 0 {
-        programs::write(b"no row was accepted, so there is nothing to send\n");
+    if collect(rt, pool, modulus, total) == 0 {
+        programs::write(rt, b"no row was accepted, so there is nothing to send\n");
         return 0;
     }
-    programs::write(b"the box switches the total to the group's key and sends it on\n");
+    programs::write(
+        rt,
+        b"the box switches the total to the group's key and sends it on\n",
+    );
     match key_switch_batch_to(params, key, total, sent) {
         LweAnswer::Written(_) => sent.len(),
         LweAnswer::Refused(r) => {
-            reasons::told(b"the switch", r);
+            reasons::told(rt, b"the switch", r);
             0
         }
     }
@@ -142,6 +162,7 @@ fn width_of(dimension: usize) -> usize {
 
 // A total of four ciphertexts of n + 1 words is switched to four of m + 1. No whole file is larger than the rooms.
 fn with_key(
+    rt: &(impl Files + Print + Eprint),
     h: Head,
     params: LweKeySwitchingParameters,
     key: &[u32],
@@ -153,6 +174,7 @@ fn with_key(
     let width = programs::at_most(width_of(h.n), total.len());
     let room = programs::at_most(width_of(h.m), sent.len());
     serve(
+        rt,
         params,
         modulus,
         &key[0..words],
@@ -181,32 +203,32 @@ pub(crate) struct Sent {
 }
 
 // Serves with a whole file of a switching key: the number of words sent on.
-fn with_file(h: Head, key: &[u32], sent: &mut [u32]) -> usize {
+fn with_file(rt: &(impl Files + Print + Eprint), h: Head, key: &[u32], sent: &mut [u32]) -> usize {
     let mut total = [0u32; 8196];
     match parameters(h) {
         LweKeySwitchingParametersAnswer::Accepted(params) => with_key(
-            h, params, key, &mut total, sent,
+            rt, h, params, key, &mut total, sent,
         ),
         LweKeySwitchingParametersAnswer::Refused(r) => {
-            reasons::told_file(b"switching_key", r, Stored::Whole);
+            reasons::told_file(rt, b"switching_key", r, Stored::Whole);
             0
         }
     }
 }
 
 // The switched total goes into `sent`.
-pub(crate) fn run(sent: &mut [u32]) -> Sent {
+pub(crate) fn run(rt: &(impl Files + Print + Eprint), sent: &mut [u32]) -> Sent {
     let mut key = [0u32; 16368];
-    let l = saved_files::load(b"switching_key", &mut key);
+    let l = saved_files::load(rt, b"switching_key", &mut key);
     let h = l.head;
     let modulus = h.modulus;
     let stored = l.stored;
     if l.refusal != 0 {
-        reasons::told_file(b"switching_key", l.refusal, stored);
+        reasons::told_file(rt, b"switching_key", l.refusal, stored);
         return Sent { words: 0, modulus };
     }
     Sent {
-        words: with_file(h, &key, sent),
+        words: with_file(rt, h, &key, sent),
         modulus,
     }
 }

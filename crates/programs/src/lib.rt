@@ -3,22 +3,64 @@
 
 ghost use Rattle.std.specs.Prelude.{◌≤◌, length};
 
-use libc::STDOUT_FILENO;
 use primus_reduce::Modulus;
+use std::fs;
+use std::io::Read;
+use std::rt::Files;
 
-pub fn write(text: &[u8]) {
-    io::write_all(STDOUT_FILENO, text);
+// Text as it stands; a write that fails is passed over.
+pub fn write(rt: &impl Print, text: &[u8]) {
+    let _ = rt.write_all(text);
 }
 
-pub fn print(label: &[u8], number: u64) {
-    write(label);
-    io::print_decimal(STDOUT_FILENO, number);
+pub fn print(rt: &impl Print, label: &[u8], number: u64) {
+    write(rt, label);
+    let _ = rt.print(number);
 }
 
 // A line.
-pub fn say(label: &[u8], number: u64) {
-    print(label, number);
-    write(b"\n");
+pub fn say(rt: &impl Print, label: &[u8], number: u64) {
+    print(rt, label, number);
+    write(rt, b"\n");
+}
+
+// A file to read; where it cannot be opened, standard error says why.
+pub fn open<R: Files + Eprint>(rt: &R, path: &[u8]) -> Option<R::File> {
+    let Ok(name) = str::from_utf8(path) else {
+        return None;
+    };
+    match fs::open(rt, name) {
+        Ok(file) => Some(file),
+        Err(e) => {
+            let _ = eprintln!(rt; "{name}: {e}");
+            None
+        }
+    }
+}
+
+// One read; one that fails gives no byte.
+pub fn read_some(input: &mut impl Read, bytes: &mut [u8]) -> usize
+    ensures { result ≤ length bytes.new }
+{
+    match input.read(bytes) {
+        Ok(n) => n,
+        Err(_) => 0,
+    }
+}
+
+// Reads until there is no room, the input ends or a read fails: how many bytes stand at the start.
+pub fn read_full(input: &mut impl Read, bytes: &mut [u8]) -> usize
+    ensures { result ≤ length bytes.new }
+{
+    let mut done = 0;
+    while done < bytes.len() {
+        let n = read_some(input, &mut bytes[done..]);
+        if n == 0 {
+            return done;
+        }
+        done += n;
+    }
+    done
 }
 
 // What was read of a file: whether it could be opened, and how many bytes.
@@ -29,33 +71,26 @@ pub struct FileRead {
 }
 
 // The first bytes of a file, as many as there is room for.
-pub fn read_file(path: &[u8], bytes: &mut [u8]) -> FileRead
+pub fn read_file(rt: &(impl Files + Eprint), path: &[u8], bytes: &mut [u8]) -> FileRead
     ensures { result.len ≤ length bytes.new }
 {
-    let fd = os::open_read(path);
-    if fd < 0 {
-        os::fail(path);
-        return FileRead {
+    match open(rt, path) {
+        Some(mut file) => FileRead {
+            opened: true,
+            len: read_full(&mut file, bytes),
+        },
+        None => FileRead {
             opened: false,
             len: 0,
-        };
+        },
     }
-    let len = io::read_full(fd, bytes);
-    libc::close(fd);
-    if bytes.len() < len {
-        return FileRead {
-            opened: true,
-            len: 0,
-        };
-    }
-    FileRead { opened: true, len }
 }
 
 // The number of bytes alone; 0 where it cannot be opened.
-pub fn read(path: &[u8], bytes: &mut [u8]) -> usize
+pub fn read(rt: &(impl Files + Eprint), path: &[u8], bytes: &mut [u8]) -> usize
     ensures { result ≤ length bytes.new }
 {
-    let r = read_file(path, bytes);
+    let r = read_file(rt, path, bytes);
     r.len
 }
 

@@ -8,6 +8,7 @@ use primus_lwe_batch::decrypt_message_batch_to;
 use primus_lwe_packed::decrypt_message_packed;
 use saved_files::Loaded;
 use saved_head::Head;
+use std::rt::Runtime;
 
 fn parameters(h: Head, dimension: LweDimension) -> LweDecryptionParameters {
     let modulus = h.modulus;
@@ -102,44 +103,44 @@ fn told_refusal(l: Loaded, beside: Loaded, refusal: u32, same: bool) -> u32 {
 }
 
 // The line of a file whose messages are in `out`: they are compared with those saved beside it.
-fn tell(folder: &[u8], name: &[u8], l: Loaded, refusal: u32, out: &[u32]) {
+fn tell(rt: &impl Runtime, folder: &[u8], name: &[u8], l: Loaded, refusal: u32, out: &[u32]) {
     let h = l.head;
     let count = h.count as usize;
     let mut told = [0u32; 8192];
-    let beside = files::load(folder, name, b".opens", &mut told);
+    let beside = files::load(rt, folder, name, b".opens", &mut told);
     let same = programs::same(out, &told, count);
     let r = told_refusal(l, beside, refusal, same);
-    files::begin(folder, name, l);
-    tell_messages(count as u64, beside.checksum as u64);
-    files::end(b"as saved", r);
+    files::begin(rt, folder, name, l);
+    tell_messages(rt, count as u64, beside.checksum as u64);
+    files::end(rt, b"as saved", r);
 }
 
-fn tell_messages(count: u64, checksum: u64) {
-    programs::print(b"", count);
-    programs::print(b" messages, checksum ", checksum);
-    programs::write(b": ");
+fn tell_messages(rt: &impl Print, count: u64, checksum: u64) {
+    programs::print(rt, b"", count);
+    programs::print(rt, b" messages, checksum ", checksum);
+    programs::write(rt, b": ");
 }
 
-pub(crate) fn opened(folder: &[u8], name: &[u8], secret: &[u8]) {
+pub(crate) fn opened(rt: &impl Runtime, folder: &[u8], name: &[u8], secret: &[u8]) {
     let mut key = [0u32; 8192];
     let mut words = [0u32; 8192];
     let mut out = [0u32; 8192];
-    let k = files::load(folder, secret, b"", &mut key);
-    let l = files::load(folder, name, b"", &mut words);
+    let k = files::load(rt, folder, secret, b"", &mut key);
+    let l = files::load(rt, folder, name, b"", &mut words);
     let s = k.head;
     let h = l.head;
     let r = open_in(h, s.words as usize, &key, &words, &mut out);
-    tell(folder, name, l, r, &out);
+    tell(rt, folder, name, l, r, &out);
 }
 
-pub(crate) fn opened_signed(folder: &[u8], name: &[u8], secret: &[u8]) {
+pub(crate) fn opened_signed(rt: &impl Runtime, folder: &[u8], name: &[u8], secret: &[u8]) {
     let mut key = [0i32; 2048];
     let mut words = [0u32; 8192];
     let mut out = [0u32; 64];
-    let k = files::load_numbers(folder, secret, &mut key);
-    let l = files::load(folder, name, b"", &mut words);
+    let k = files::load_numbers(rt, folder, secret, &mut key);
+    let l = files::load(rt, folder, name, b"", &mut words);
     let s = k.head;
     let h = l.head;
     let r = open_signed(h, s.words as usize, &key, &words, &mut out);
-    tell(folder, name, l, r, &out);
+    tell(rt, folder, name, l, r, &out);
 }

@@ -3,6 +3,7 @@ ghost use Rattle.std.specs.Prelude.{◌≤◌, length};
 
 use primus_lattice::{MarkAnswer, Tally};
 use saved_files::Loaded;
+use std::rt::Files;
 
 // 999 stands for a difference that no number of document 01 names.
 pub(crate) const DIFFERS: u32 = 999;
@@ -39,68 +40,79 @@ fn path_to(out: &mut [u8], folder: &[u8], name: &[u8], suffix: &[u8]) -> usize
 }
 
 // The file folder/name.suffix with its words.
-pub(crate) fn load(folder: &[u8], name: &[u8], suffix: &[u8], words: &mut [u32]) -> Loaded {
+pub(crate) fn load(
+    rt: &(impl Files + Eprint),
+    folder: &[u8],
+    name: &[u8],
+    suffix: &[u8],
+    words: &mut [u32],
+) -> Loaded {
     let mut room = [0u8; 64];
     let end = path_to(&mut room, folder, name, suffix);
     let path: &[u8] = &room;
-    saved_files::load(&path[0..end], words)
+    saved_files::load(rt, &path[0..end], words)
 }
 
 // The file folder/name with its words as signed numbers.
-pub(crate) fn load_numbers(folder: &[u8], name: &[u8], numbers: &mut [i32]) -> Loaded {
+pub(crate) fn load_numbers(
+    rt: &(impl Files + Eprint),
+    folder: &[u8],
+    name: &[u8],
+    numbers: &mut [i32],
+) -> Loaded {
     let mut room = [0u8; 64];
     let end = path_to(&mut room, folder, name, b"");
     let path: &[u8] = &room;
-    saved_files::load_numbers(&path[0..end], numbers)
+    saved_files::load_numbers(rt, &path[0..end], numbers)
 }
 
-fn print_good(good: bool) {
+fn print_good(rt: &impl Print, good: bool) {
     if good {
-        programs::write(b" (good)");
+        programs::write(rt, b" (good)");
         return;
     }
-    programs::write(b" (not good)");
+    programs::write(rt, b" (not good)");
 }
 
-fn print_tally(l: Loaded) {
+fn print_tally(rt: &impl Print, l: Loaded) {
     let tag = l.tag;
     let h = l.head;
     let modulus = h.modulus;
     let Tally::Present(a) = tag.tally() else {
         return;
     };
-    programs::print(b", tally ", a);
+    programs::print(rt, b", tally ", a);
     match tag.is_good(modulus, h.plaintext_modulus) {
-        MarkAnswer::Mark(good) => print_good(good),
-        MarkAnswer::Refused(r) => programs::print(b" refused ", r as u64),
+        MarkAnswer::Mark(good) => print_good(rt, good),
+        MarkAnswer::Refused(r) => programs::print(rt, b" refused ", r as u64),
     }
 }
 
 // "folder/name: kind 5, 100 words, tally 3 (good), checksum 1234: "
-pub(crate) fn begin(folder: &[u8], name: &[u8], l: Loaded) {
+pub(crate) fn begin(rt: &impl Print, folder: &[u8], name: &[u8], l: Loaded) {
     let h = l.head;
-    programs::write(folder);
-    programs::write(name);
-    programs::print(b": kind ", h.kind as u64);
-    programs::print(b", ", h.words as u64);
-    programs::write(b" words");
-    print_tally(l);
-    programs::print(b", checksum ", l.checksum as u64);
-    programs::write(b": ");
+    programs::write(rt, folder);
+    programs::write(rt, name);
+    programs::print(rt, b": kind ", h.kind as u64);
+    programs::print(rt, b", ", h.words as u64);
+    programs::write(rt, b" words");
+    print_tally(rt, l);
+    programs::print(rt, b", checksum ", l.checksum as u64);
+    programs::write(rt, b": ");
 }
 
 // The end of a line: 0, the number of a refusal, or 999 for a difference.
-pub(crate) fn end(good: &[u8], refusal: u32) {
+pub(crate) fn end(rt: &impl Print, good: &[u8], refusal: u32) {
     if refusal == 0 {
-        programs::write(good);
-        programs::write(b"\n");
+        programs::write(rt, good);
+        programs::write(rt, b"\n");
         return;
     }
     if refusal == DIFFERS {
-        programs::write(b"DIFFERS\n");
+        programs::write(rt, b"DIFFERS\n");
         return;
     }
-    programs::say(b"REFUSED ", refusal as u64);
+    programs::say(rt, b"REFUSED ", refusal as u64);
 }
 
 // The first of two that is not 0.

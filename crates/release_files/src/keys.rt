@@ -8,6 +8,7 @@ use primus_lwe::LwePhaseParameters;
 use primus_lwe_batch::decrypt_phase_batch_to;
 use saved_files::Loaded;
 use saved_head::Head;
+use std::rt::Runtime;
 
 fn secret_refusal(h: Head, kind: u32) -> u32 {
     if h.kind != kind {
@@ -19,20 +20,21 @@ fn secret_refusal(h: Head, kind: u32) -> u32 {
     0
 }
 
-pub(crate) fn secret(folder: &[u8], name: &[u8]) {
+pub(crate) fn secret(rt: &impl Runtime, folder: &[u8], name: &[u8]) {
     let mut words = [0u32; 8192];
-    let l = files::load(folder, name, b"", &mut words);
+    let l = files::load(rt, folder, name, b"", &mut words);
     let r = secret_refusal(l.head, 1);
-    files::begin(folder, name, l);
-    files::end(b"a secret key of words", files::first(l.refusal, r));
+    files::begin(rt, folder, name, l);
+    files::end(rt, b"a secret key of words", files::first(l.refusal, r));
 }
 
-pub(crate) fn signed_secret(folder: &[u8], name: &[u8]) {
+pub(crate) fn signed_secret(rt: &impl Runtime, folder: &[u8], name: &[u8]) {
     let mut numbers = [0i32; 2048];
-    let l = files::load_numbers(folder, name, &mut numbers);
+    let l = files::load_numbers(rt, folder, name, &mut numbers);
     let r = secret_refusal(l.head, 2);
-    files::begin(folder, name, l);
+    files::begin(rt, folder, name, l);
     files::end(
+        rt,
         b"a secret key of signed numbers",
         files::first(l.refusal, r),
     );
@@ -85,17 +87,17 @@ fn public_refusal(h: Head, secret: &[u32], key: &[u32], out: &mut [u32]) -> u32 
     near(out, h.n, h.error_limit, modulus.size())
 }
 
-pub(crate) fn public_key(folder: &[u8], name: &[u8], secret: &[u8]) {
+pub(crate) fn public_key(rt: &impl Runtime, folder: &[u8], name: &[u8], secret: &[u8]) {
     let mut words = [0u32; 8192];
     let mut key = [0u32; 8192];
     let mut out = [0u32; 8192];
-    let s = files::load(folder, secret, b"", &mut words);
-    let l = files::load(folder, name, b"", &mut key);
+    let s = files::load(rt, folder, secret, b"", &mut words);
+    let l = files::load(rt, folder, name, b"", &mut key);
     let h = l.head;
     let r = public_refusal(h, &words, &key, &mut out);
     let r = files::first(files::first(l.refusal, r), s.refusal);
-    files::begin(folder, name, l);
-    files::end(b"rows that open to 0", r);
+    files::begin(rt, folder, name, l);
+    files::end(rt, b"rows that open to 0", r);
 }
 
 fn switch(h: Head, key: &[u32], input: &[u32], out: &mut [u32]) -> u32 {
@@ -140,15 +142,15 @@ fn switched_refusal(
     files::first(r, files::unless(h.kind == 3))
 }
 
-pub(crate) fn switching_key(folder: &[u8], name: &[u8], from: &[u8], to: &[u8]) {
+pub(crate) fn switching_key(rt: &impl Runtime, folder: &[u8], name: &[u8], from: &[u8], to: &[u8]) {
     let mut key = [0u32; 8192];
     let mut input = [0u32; 8192];
     let mut output = [0u32; 8192];
     let mut out = [0u32; 8192];
-    let l = files::load(folder, name, b"", &mut key);
-    let x = files::load(folder, from, b"", &mut input);
-    let y = files::load(folder, to, b"", &mut output);
+    let l = files::load(rt, folder, name, b"", &mut key);
+    let x = files::load(rt, folder, from, b"", &mut input);
+    let y = files::load(rt, folder, to, b"", &mut output);
     let r = switched_refusal(l, x, y, &key, &input, &output, &mut out);
-    files::begin(folder, name, l);
-    files::end(b"switches as saved", r);
+    files::begin(rt, folder, name, l);
+    files::end(rt, b"switches as saved", r);
 }

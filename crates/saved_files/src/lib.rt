@@ -1,7 +1,9 @@
 // Saved files, read whole into rooms that the caller lends.
 #![tactic(auto)]
+
 use lwe_tag::LweTag;
 use saved_head::Head;
+use std::rt::Files;
 
 // The programs take files of at most 65,536 bytes. A room has one byte more: no whole file has that length, so a
 // longer one is refused too (odd-length of saved_head).
@@ -63,9 +65,9 @@ fn judged(opened: bool, bytes: &[u8]) -> Loaded {
 }
 
 // A file with its words.
-pub fn load(path: &[u8], words: &mut [u32]) -> Loaded {
+pub fn load(rt: &(impl Files + Eprint), path: &[u8], words: &mut [u32]) -> Loaded {
     let mut room = [0u8; ROOM];
-    let f = programs::read_file(path, &mut room);
+    let f = programs::read_file(rt, path, &mut room);
     let len = f.len;
     let bytes: &[u8] = &room;
     saved::words_to(&bytes[0..len], words);
@@ -81,9 +83,9 @@ fn numbers_to(bytes: &[u8], numbers: &mut [i32]) {
 }
 
 // A file with its words as signed numbers.
-pub fn load_numbers(path: &[u8], numbers: &mut [i32]) -> Loaded {
+pub fn load_numbers(rt: &(impl Files + Eprint), path: &[u8], numbers: &mut [i32]) -> Loaded {
     let mut room = [0u8; ROOM];
-    let f = programs::read_file(path, &mut room);
+    let f = programs::read_file(rt, path, &mut room);
     let len = f.len;
     let bytes: &[u8] = &room;
     numbers_to(&bytes[0..len], numbers);
