@@ -1,5 +1,6 @@
 // LWE key switching over words of 32 bits: (0, b) minus the sum of digit(i, j) × entry(i, j) modulo q.
 #![tactic(auto)]
+
 ghost use Rattle.std.specs.Prelude.{◌≡◌, length};
 ghost use Rattle.scheme.specs.Switch.{switched_batch};
 ghost use Rattle.scheme.specs.Checks.{refusal};

@@ -1,5 +1,6 @@
 // Phases and decryption, for C. The promises are those of primus_lwe, of the parameters that the numbers give.
 #![tactic(auto)]
+
 ghost use Rattle.scheme.specs.Lwe.{Words, Signed};
 ghost use Rattle.primus_lwe.specs.Answers.{TakesPhase, Decrypts};
 ghost use Rattle.primus_lwe_batch.specs.Answers.{TakesPhases, DecryptsBatch};
