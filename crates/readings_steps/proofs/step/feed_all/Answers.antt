@@ -1,0 +1,31 @@
+use mathlib.Core.Path.{◌≡◌, refl, ap, ◌∙◌}
+use Prim.Native.Nat.{◌+◌}
+use native.Mathlib.Omega.{arith}
+use lib.ListN.{length, take, set}
+use Rattle.readings_steps.specs.Steps.{turns_fed, places}
+use Rattle.readings_steps.proofs.Fed.{fed_none, fed-next, no_turns, length-places, put_next, full_next}
+use Rattle.readings_steps.proofs.step.feed_all.Goals as goal
+use Rattle.readings_steps.proofs.step.feed_all.Goals.{then-i-lt64, else-i-lt64}
+
+pub loop-i-init : goal.loop-i-init
+unfolding turns_fed
+loop-i-init c = (omega arith, refl, fed_none _, no_turns 64 _)
+
+pub loop-i-preserved : goal.loop-i-preserved
+loop-i-preserved c =
+    let h = c.loop-i-test.true in
+    let v = c.loop-i.invariant in
+    let a = c.args.before in
+    let l = c.loop-i in
+    let placed : c.if-i-lt64.turns ≡ places 64 a.turn (turns_fed a (take (l.i + 1) c.args.bytes.now)) =
+    elim c.if-i-lt64.branch [
+      | then-i-lt64 w ↦ w.turns-is ∙ ap (λ r. set l.turns l.i r.turn) c.feed-m.ensures
+          ∙ put_next 64 a l.m c.args.bytes.now l.i h v.2 a.turn l.turns v.3
+      | else-i-lt64 w ↦ w.turns-is
+          ∙ full_next 64 a l.m c.args.bytes.now l.i h v.2 w.if-i-lt64.false a.turn l.turns v.3
+    ] in (
+      omega arith,
+      ap length placed ∙ length-places 64 _ _,
+      c.feed-m.ensures ∙ fed-next a l.m c.args.bytes.now l.i h v.2,
+      placed,
+    )
