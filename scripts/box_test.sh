@@ -8,7 +8,6 @@ program=${PROGRAM:-}
 case $program in '' | /*) ;; *) program=$PWD/$program ;; esac
 cd "$(dirname "$0")/.."
 if [ -z "$program" ]; then
-  rt check pooling_box > /dev/null || { rt check pooling_box; exit 1; }
-  program=$PWD/target/bin/pooling_box
+  program=$(scripts/program.sh pooling_box)
 fi
 exec python3 scripts/box_test.py "$program"

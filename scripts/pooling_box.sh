@@ -16,7 +16,6 @@ if [ $# = 0 ]; then
   exec cat crates/pooling_box/stdout
 fi
 [ -d "$folder" ] || { echo "pooling_box: no folder '$folder'" >&2; exit 1; }
-rt check pooling_box > /dev/null || { rt check pooling_box; exit 1; }
-program=$PWD/target/bin/pooling_box
+program=$(scripts/program.sh pooling_box)
 cd "$folder"
 exec "$program"

@@ -6,8 +6,7 @@
 #   scripts/readings.sh - < FILE            commands from standard input
 set -eu
 cd "$(dirname "${BASH_SOURCE[0]}")/.."
-rt check readings > /dev/null || { rt check readings; exit 1; }
-program=target/bin/readings
+program=$(scripts/program.sh readings)
 if [ $# = 0 ]; then
   exec "$program" < crates/readings/stdin
 fi

@@ -1,20 +1,19 @@
 -- Byte by byte, the reader says the lines of the whole input.
 -- Assumes nothing.
-use mathlib.Core.Path.{◌≡◌, refl, sym, ap, ap₂, ◌∙◌, subst}
+use mathlib.Core.Path.{◌≡◌, refl, sym, ap, ◌∙◌, subst}
 use mathlib.Core.Bool.{Bool, true, false}
 use mathlib.Core.List.{List, [], ◌∷◌, ◌++◌, append-nil, append_assoc}
 use Prim.Native.Nat.{ℕ, zero, suc, ◌+◌, ◌-◌, ◌≤◌, ◌<◌}
-use native.Mathlib.Nat.{add-zero}
 use native.Mathlib.Numerals.{add-one}
 use native.Mathlib.Decide.{ℕ_discrete}
 use native.Mathlib.Omega.{arith}
-use lib.Dec.{leb, ltb, eqb}
-use lib.ListN.{length, take, drop, set, length-append, length-take, length-drop, length-set}
+use lib.Dec.{eqb}
+use lib.ListN.{length, take, drop, set, length-append, length-set}
 use lib.Seq.{take_all, take-suc-set}
 use borrow.Author.Tests.{le-leb, lt-leb, lt-ltb, eq-eqb, ne_eqb}
 use Rattle.scheme.specs.Numbers.{pick}
 use Rattle.readings_commands.specs.Commands.{operands, over, turn_of}
-use Rattle.readings_reader.specs.Run.{Line, due, lines_within, lines_of, silent, start, put, one_more, settled_by, fed, finished, lines_fed}
+use Rattle.readings_reader.specs.Run.{Line, due, lines_within, lines_of, silent, start, settled_by, fed, finished, lines_fed}
 use Rattle.readings_core.specs.declared.command.Session.{Session}
 use Rattle.readings_core.specs.declared.command.Session.TheVariants.{Empty}
 use Rattle.readings_core.specs.declared.command.Turn.{Turn}
@@ -42,8 +41,11 @@ cut s c xs h = go (ℕ_discrete c 1) (ℕ_discrete c 2)
 -- after 19 there are no lines
 pub ended : (m : Reader) → m.turn.more ≡ false → m.begun ≡ false → (xs : List ℕ) → lines_fed m xs ≡ []
 unfolding lines_fed finished fed
-ended m e b [] = rw b refl
-ended m e b (x ∷ xs) = rw e (ended _ refl refl xs)
+ended m e b xs = go xs m e b
+  where
+    go : (xs : List ℕ) (m : Reader) → m.turn.more ≡ false → m.begun ≡ false → lines_fed m xs ≡ []
+    go [] m e b = rw b refl
+    go (x ∷ xs) m e b = rw e (go xs _ refl refl)
 
 -- a reader that waits for a command, in the session s
 pub record Waits (s : Session) (m : Reader) : Type 0 where

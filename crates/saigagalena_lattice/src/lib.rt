@@ -1,5 +1,6 @@
 // Sums, marks and samples, for C. The promises are those of primus_lattice and lwe_tag.
 #![tactic(auto)]
+
 ghost use Rattle.std.specs.Prelude.{◌≡◌};
 ghost use Rattle.primus_reduce.specs.Ring.{modulus_for};
 ghost use Rattle.lwe_tag.specs.Answers.{mark_answer};

@@ -1,5 +1,6 @@
 // The public key, for C. The promises are those of primus_lwe_public_key, of the parameters that the numbers give.
 #![tactic(auto)]
+
 ghost use Rattle.scheme.specs.Lwe.{Words, Signed};
 ghost use Rattle.primus_lwe_public_key.specs.Answers.{GeneratesPublicKey, EncryptsPublic, EncryptsPublicMessage};
 ghost use Rattle.c_numbers.specs.Numbers.{embedding_for, encryption_with, messages_with};

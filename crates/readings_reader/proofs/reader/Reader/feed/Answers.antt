@@ -1,6 +1,5 @@
 use mathlib.Core.Path.{ap, ap₂, ◌∙◌}
 use mathlib.Core.Bool.{false}
-use native.Mathlib.Omega.{arith}
 use Rattle.readings_reader.specs.Run.{settled_by, fed}
 use Rattle.readings_reader.proofs.reader.Reader.feed.Goals as goal
 
