@@ -1,5 +1,6 @@
 // Saved runs of ciphertexts, added to a total place by place, or refused whole. The first of them is the total.
 #![tactic(auto)]
+
 mod rows;
 mod total;
 

@@ -1,6 +1,6 @@
 -- Laws of sums, differences and products of words modulo q.
 -- Assumes nothing.
-use Rattle.std.proofs.Common.{◌≡◌, ℕ, zero, suc, ◌+◌, ◌-◌, ◌*◌, ◌/◌, ◌%◌, ◌^◌, ◌<◌, ◌≤◌, Bool, true, false, ℤ, pos, ◌+ℤ◌, ◌-ℤ◌, sym, refl, ap, ◌∙◌, ap₂, le_trans, le_of_eq, mod-lt, mod-eq_of_lt, mul-le-mul, one-mul, not-le_of_lt, add-one, arith, pow_mono, ne_eqb, eqb-true}
+use Rattle.std.proofs.Common.{◌≡◌, ℕ, ◌+◌, ◌-◌, ◌*◌, ◌/◌, ◌%◌, ◌^◌, ◌<◌, ◌≤◌, true, false, pos, ◌+ℤ◌, ◌-ℤ◌, sym, refl, ap, ◌∙◌, ap₂, le_trans, le_of_eq, mod-lt, mod-eq_of_lt, mul-le-mul, one-mul, not-le_of_lt, add-one, arith, pow_mono, ne_eqb, eqb-true}
 use native.Mathlib.Nat.{div-add-mod, add-mod}
 use native.Mathlib.Decide.{dec_le}
 use lib.Arith.{digits_mod}

@@ -1,5 +1,6 @@
 // Key switching, for C. The promises are those of key_switch, of the parameters that the numbers give.
 #![tactic(auto)]
+
 ghost use Rattle.scheme.specs.Lwe.{Words, Signed};
 ghost use Rattle.key_switch_key.specs.Answers.{Generates};
 ghost use Rattle.key_switch.specs.Answers.{Switches, SwitchesBatch};

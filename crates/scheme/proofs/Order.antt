@@ -8,12 +8,12 @@
 use mathlib.Core.Path.{◌≡◌, refl, sym, ap, ◌∙◌}
 use mathlib.Core.Bool.{Bool, true, false, not, ◌||◌, ◌&&◌}
 use mathlib.Core.List.{List, [], ◌∷◌, ◌++◌}
-use Prim.Native.Nat.{ℕ, ◌+◌}
+use Prim.Native.Nat.{ℕ}
 use native.Mathlib.Omega.{arith}
 use lib.Dec.{T, eqb}
 use mir.Facts.{and_yes, eqb_no}
 use borrow.Author.Tests.{eqb-true, eq-eqb, ne_eqb}
-use Rattle.scheme.specs.Numbers.{pick, tabulate}
+use Rattle.scheme.specs.Numbers.{pick}
 use Rattle.scheme.specs.Checks.{Check, sizes, values, order, applies, first_in, refusal, Writes}
 
 -- no number of a list is 0

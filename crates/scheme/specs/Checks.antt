@@ -1,9 +1,9 @@
 -- "Checks, in order": each condition by its number, and the first number that applies.
-use Rattle.std.specs.Prelude.{◌≡◌, Bool, true, false, not, ◌||◌, ◌&&◌, List, [], ◌∷◌, ◌++◌, ℕ, zero, suc, ◌+◌, ◌*◌, ◌/◌, ◌%◌, ◌^◌, leb, ltb, eqb, ℤ, nat_abs, length}
+use Rattle.std.specs.Prelude.{◌≡◌, Bool, true, false, not, ◌||◌, ◌&&◌, List, [], ◌∷◌, ◌++◌, ℕ, ◌+◌, ◌%◌, ◌^◌, leb, ltb, eqb, ℤ, nat_abs}
 use Rattle.scheme.specs.Numbers.{pick}
-use Rattle.scheme.specs.Modulus.{Modulus, Native, Explicit, size, bits}
+use Rattle.scheme.specs.Modulus.{Modulus, Native, Explicit, bits}
 use Rattle.scheme.specs.Lwe.{Key, Words, Signed}
-use Rattle.scheme.specs.Basis.{Levels, levels_of, full_count}
+use Rattle.scheme.specs.Basis.{full_count}
 
 -- whether a condition holds, and its number
 pub record Check : Type 0 where

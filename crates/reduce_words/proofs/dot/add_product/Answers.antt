@@ -1,4 +1,4 @@
-use Rattle.std.proofs.Common.{◌*◌, arith, rules}
+use Rattle.std.proofs.Common.{◌*◌, arith}
 use Rattle.reduce_words.proofs.Laws.{product-most, wrapped, unwrapped}
 use Rattle.reduce_words.proofs.dot.add_product.Goals as goal
 

@@ -1,4 +1,4 @@
-use Rattle.std.proofs.Common.{◌%◌, sym, ap, ◌∙◌, rules}
+use Rattle.std.proofs.Common.{◌%◌, sym, ap, ◌∙◌}
 use Rattle.reduce_words.proofs.Laws.{power_wraps}
 use Rattle.reduce_words.proofs.dot.dot_explicit.Goals as goal
 

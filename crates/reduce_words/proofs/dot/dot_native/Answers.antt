@@ -1,5 +1,4 @@
-use Rattle.std.proofs.Common.{◌≡◌, ◌+◌, ◌-◌, ◌*◌, ◌%◌, ◌^◌, ◌≤◌, length, sym, ap, ◌∙◌, arith, rules}
-use Rattle.scheme.specs.Numbers.{sum_ℕ}
+use Rattle.std.proofs.Common.{◌%◌, ◌^◌, ap, arith}
 use Rattle.reduce_words.specs.Exact.{product}
 use Rattle.reduce_words.proofs.Laws.{sum_none, sum_wraps}
 use Rattle.reduce_words.proofs.dot.dot_native.Goals as goal

@@ -1,7 +1,6 @@
-use Rattle.std.proofs.Common.{◌≡◌, ◌+◌, ◌-◌, ◌*◌, ◌%◌, ◌^◌, ◌≤◌, length, sym, ap, ◌∙◌, arith, rules}
+use Rattle.std.proofs.Common.{◌≡◌, ◌-◌, ◌%◌, ◌^◌, ◌≤◌}
 use Rattle.scheme.specs.Numbers.{sum_ℕ}
 use Rattle.reduce_words.specs.Exact.{product}
-use Rattle.reduce_words.proofs.Laws.{sum_none, sum_wraps}
 use Rattle.reduce_words.proofs.dot.dot_native.Given as goal
 
 abbrev pub invariant-loop-i : goal.invariant-loop-i

@@ -1,5 +1,5 @@
-use Rattle.std.proofs.Common.{◌∙◌, arith, rules}
-use Rattle.reduce_words.proofs.Laws.{product-most, exact-mod}
+use Rattle.std.proofs.Common.{◌∙◌}
+use Rattle.reduce_words.proofs.Laws.{exact-mod}
 use Rattle.reduce_words.proofs.dot.reduce_exact.Goals as goal
 
 pub returns : goal.returns

@@ -1,6 +1,5 @@
-use Rattle.std.proofs.Common.{◌≡◌, ◌+◌, ◌-◌, ◌*◌, ◌^◌, ◌≤◌, length, sym, ap, ◌∙◌, arith, rules}
-use Rattle.scheme.specs.Numbers.{sum_ℕ}
-use Rattle.reduce_words.specs.Exact.{exact, product}
+use Rattle.std.proofs.Common.{◌+◌, sym, ap, ◌∙◌, arith}
+use Rattle.reduce_words.specs.Exact.{product}
 use Rattle.reduce_words.proofs.Laws.{exact_none, sum_more}
 use Rattle.reduce_words.proofs.dot.sum_products.Goals as goal
 

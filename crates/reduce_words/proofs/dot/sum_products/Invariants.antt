@@ -1,7 +1,6 @@
-use Rattle.std.proofs.Common.{◌≡◌, ◌+◌, ◌-◌, ◌*◌, ◌^◌, ◌≤◌, length, sym, ap, ◌∙◌, arith, rules}
+use Rattle.std.proofs.Common.{◌≡◌, ◌-◌, ◌≤◌}
 use Rattle.scheme.specs.Numbers.{sum_ℕ}
 use Rattle.reduce_words.specs.Exact.{exact, product}
-use Rattle.reduce_words.proofs.Laws.{exact_none, sum_more}
 use Rattle.reduce_words.proofs.dot.sum_products.Given as goal
 
 abbrev pub invariant-loop-i : goal.invariant-loop-i

@@ -1,5 +1,4 @@
-use Rattle.std.proofs.Common.{arith, rules}
-use Rattle.reduce_words.proofs.Laws.{right_below, add_small, add_large}
+use Rattle.reduce_words.proofs.Laws.{add_small, add_large}
 use Rattle.reduce_words.proofs.ops.add_explicit.Goals as goal
 
 pub returns-then-x-room : goal.returns-then-x-room

@@ -1,5 +1,4 @@
-use Rattle.std.proofs.Common.{arith, rules}
-use Rattle.reduce_words.proofs.Laws.{right_below, sub_small, sub_large}
+use Rattle.reduce_words.proofs.Laws.{sub_small, sub_large}
 use Rattle.reduce_words.proofs.ops.sub_explicit.Goals as goal
 
 pub returns-then-y-x : goal.returns-then-y-x

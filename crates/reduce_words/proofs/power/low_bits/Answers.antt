@@ -1,5 +1,4 @@
-use Rattle.std.proofs.Common.{arith, rules}
-use Rattle.reduce_words.proofs.Laws.{masked, masked-fits}
+use Rattle.reduce_words.proofs.Laws.{masked}
 use Rattle.reduce_words.proofs.power.low_bits.Goals as goal
 
 pub returns : goal.returns

@@ -1,5 +1,4 @@
 use Rattle.std.proofs.Common.{sym, ◌∙◌}
-use lib.Count.{leading_le}
 use Rattle.reduce_words.proofs.Laws.{power_bits, width_bits}
 use Rattle.reduce_words.proofs.power.value_bits.Goals as goal
 
