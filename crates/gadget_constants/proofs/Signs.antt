@@ -1,6 +1,6 @@
 -- Differences of words as signed numbers of 64 bits, and the reading in that form.
 -- Assumes nothing.
-use Rattle.std.proofs.Common.{◌≡◌, ℕ, ◌+◌, ◌-◌, ◌/◌, ◌%◌, ◌^◌, ◌<◌, ◌≤◌, Bool, true, false, ltb, ℤ, pos, ◌-ℤ◌, sym, ap, ◌∙◌, ap₂, arith, to_z-of_z, w64, SFits, to_z, of_z, le-ltb, lt-ltb}
+use Rattle.std.proofs.Common.{◌≡◌, ℕ, ◌+◌, ◌/◌, ◌%◌, ◌^◌, ◌<◌, ◌≤◌, Bool, true, false, ltb, ℤ, pos, ◌-ℤ◌, sym, ap, ◌∙◌, ap₂, arith, to_z-of_z, w64, SFits, to_z, of_z, le-ltb, lt-ltb}
 use lib.Signed.{mag}
 use mir.Facts.{to_z_pos}
 use Rattle.scheme.specs.Numbers.{pick}

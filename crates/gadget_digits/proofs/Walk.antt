@@ -17,7 +17,7 @@ use Rattle.scheme.specs.Numbers.{pick}
 use Rattle.scheme.specs.Basis.{Basis, Accepted, base, half, dropped}
 use Rattle.scheme.specs.Digits.{low, next, digit, stored}
 use Rattle.gadget_digits.specs.Walk.{adjusted, carry_in, bit, window, window_digit, window_carry, Walk, walk_at, walk_from, walk_digit}
-use Rattle.scheme.proofs.Integers.{◌⊖◌, ⊖-ind}
+use Rattle.scheme.proofs.Integers.{⊖-ind}
 use Rattle.scheme.proofs.Balanced.{rest, digit_rest, rest_suc}
 use Rattle.scheme.proofs.Reading.{even_base}
 use Rattle.gadget_digits.proofs.Adjusted.{window-low-small, window-low_large, window-next-small, window-next_large, digit_windows}

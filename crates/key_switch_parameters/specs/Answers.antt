@@ -6,13 +6,8 @@ use Rattle.primus_reduce.specs.Ring.{size_of}
 use Rattle.primus_reduce.specs.declared.modulus.Modulus.{Modulus}
 use Rattle.primus_decompose.specs.Answers.{rows, basis_with}
 use Rattle.key_switch_parameters.specs.declared.LweKeySwitchingParameters.{LweKeySwitchingParameters}
-use Rattle.key_switch_parameters.specs.declared.LweKeySwitchingParametersAnswer.{
-  LweKeySwitchingParametersAnswer,
-}
-use Rattle.key_switch_parameters.specs.declared.LweKeySwitchingParametersAnswer.TheVariants.{
-  Accepted,
-  Refused,
-}
+use Rattle.key_switch_parameters.specs.declared.LweKeySwitchingParametersAnswer.{LweKeySwitchingParametersAnswer}
+use Rattle.key_switch_parameters.specs.declared.LweKeySwitchingParametersAnswer.TheVariants.{Accepted, Refused}
 
 -- q, n, m and L
 abbrev pub q_in : LweKeySwitchingParameters → ℕ

@@ -1,12 +1,9 @@
 -- The two ways through a call that writes ciphertexts, and what is known where it wrote.
 -- Assumes nothing.
-use mathlib.Core.Path.{◌≡◌, refl, sym, ap, ◌∙◌}
-use mathlib.Core.Bool.{Bool, true, false}
+use mathlib.Core.Path.{◌≡◌, ap, ◌∙◌}
 use mathlib.Core.List.{List}
 use Prim.Native.Nat.{ℕ}
-use lib.Dec.{eqb}
-use borrow.Author.Tests.{eq-eqb, ne_eqb, eqb-true}
-use Rattle.scheme.specs.Numbers.{pick}
+use borrow.Author.Tests.{ne_eqb}
 use Rattle.scheme.specs.Checks.{Check, refusal}
 use Rattle.scheme.proofs.Order.{told, given, pick_by}
 use Rattle.lwe_tag.specs.declared.LweTag.{LweTag}

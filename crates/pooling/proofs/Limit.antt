@@ -3,7 +3,7 @@
 --     limit_unread          of add_saved
 --     limit_unread_first    of begin_saved
 -- Assumes nothing.
-use mathlib.Core.Path.{◌≡◌, refl, sym, ap, ap₂, subst, ◌∙◌}
+use mathlib.Core.Path.{◌≡◌, refl, ap, ap₂, ◌∙◌}
 use mathlib.Core.Bool.{Bool, not, ◌&&◌}
 use mathlib.Core.List.{List, [], ◌∷◌, ◌++◌}
 use Prim.Native.Nat.{ℕ, ◌+◌, ◌*◌, ◌^◌, ◌≤◌, ◌<◌}
@@ -15,14 +15,12 @@ use Rattle.scheme.specs.Checks.{Check, applies, all_of}
 use Rattle.scheme.proofs.Lists.{tabulate_ext}
 use Rattle.little_endian.specs.Bytes.{word32, word64}
 use Rattle.little_endian.proofs.Laws.{four}
-use Rattle.primus_reduce.specs.Ring.{modulus_for}
-use Rattle.lwe_tag.specs.declared.LweTag.{LweTag}
 use Rattle.lwe_tag.specs.Answers.{cap, tally_of, tag_rows}
 use Rattle.saved_head.specs.Head.{head_of}
 use Rattle.saved.specs.Layout.{file_word, file_words, saved_tag}
 use Rattle.pooling_refusals.specs.declared.total.PoolParameters.{PoolParameters}
 use Rattle.pooling_rows.specs.Rows.{place_tag, sum_number, place_sum, place_fails, tallies_fail, saved_fail, add_tallies, saved_tallies}
-use Rattle.pooling_refusals.specs.Rows.{own_rows, size_rows, begin_rows, total_rows, file_refusal, begin_refusal, total_refusal}
+use Rattle.pooling_refusals.specs.Rows.{own_rows, size_rows, file_refusal, begin_refusal, total_refusal}
 use Rattle.pooling.specs.Total.{BeginsSaved, AddsSaved}
 
 all_ext : (f g : ℕ → Bool) (xs : List ℕ) → ((i : ℕ) → f i ≡ g i) → all_of f xs ≡ all_of g xs

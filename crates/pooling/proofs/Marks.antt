@@ -3,18 +3,16 @@
 --     begun_tally    the tally of the first file
 --     added_tally    the sum of two
 -- Assumes nothing.
-use mathlib.Core.Path.{◌≡◌, refl, sym, ap, ap₂, ◌∙◌}
-use mathlib.Core.Bool.{Bool, false, not, ◌||◌}
+use mathlib.Core.Path.{◌≡◌, refl, sym, ap, ◌∙◌}
+use mathlib.Core.Bool.{false, ◌||◌}
 use mathlib.Core.List.{List}
-use Prim.Native.Nat.{ℕ, ◌+◌, ◌^◌, ◌≤◌, ◌<◌}
+use Prim.Native.Nat.{ℕ, ◌^◌, ◌≤◌, ◌<◌}
 use native.Mathlib.Omega.{arith}
-use lib.Dec.{ltb}
-use lib.ListN.{length, get_or}
+use lib.ListN.{length}
 use borrow.Author.Tests.{ne_eqb, ltb-false}
 use Rattle.scheme.specs.Tally.{Tally, Absent, Present, add_tally, tally_fails}
 use Rattle.scheme.proofs.Order.{neither}
 use Rattle.scheme.proofs.Lists.{get_d_tabulate}
-use Rattle.lwe_tag.specs.declared.LweTag.{LweTag}
 use Rattle.lwe_tag.specs.Answers.{cap, no_tally, tally_of, tag_of}
 use Rattle.saved.specs.Layout.{saved_tally, saved_tag}
 use Rattle.saved.proofs.Tags.{saved_fails, saved_is}

@@ -3,10 +3,9 @@
 --     added-phase    its phase is the sum of their phases, under every secret
 --     refused_none   a refused file leaves every word and every tally; begun_none: as the first of a total too
 -- Assumes nothing.
-use mathlib.Core.Path.{◌≡◌, refl, sym, ap, ap₂, ◌∙◌, subst}
+use mathlib.Core.Path.{◌≡◌, refl, sym, ap, ◌∙◌, subst}
 use mathlib.Core.List.{List, [], ◌∷◌, zip_with}
 use Prim.Native.Nat.{ℕ, zero, suc, ◌+◌, ◌*◌, ◌%◌, ◌<◌}
-use native.Mathlib.Omega.{arith}
 use lib.IntN.{ℤ, pos, ◌+ℤ◌}
 use lib.ListN.{length, take, drop}
 use borrow.Author.Tests.{ne_eqb}

@@ -6,13 +6,13 @@
 use mathlib.Core.Path.{◌≡◌, refl, sym, ap, ap₂, subst, ◌∙◌}
 use mathlib.Core.Bool.{Bool, true, false, not, ◌||◌}
 use mathlib.Core.List.{List, [], ◌∷◌}
-use Prim.Native.Nat.{ℕ, zero, suc, ◌+◌, ◌*◌, ◌%◌, ◌≤◌, ◌<◌}
+use Prim.Native.Nat.{ℕ, suc, ◌+◌, ◌*◌, ◌%◌, ◌≤◌, ◌<◌}
 use native.Mathlib.Omega.{arith}
-use lib.Dec.{eqb, ltb}
+use lib.Dec.{ltb}
 use lib.ListN.{length, get_or, take, drop, set}
 use lib.Seq.{drop_at}
 use borrow.Author.Tests.{eq-eqb, lt-ltb}
-use Rattle.scheme.specs.Numbers.{pick, tabulate, rows_of}
+use Rattle.scheme.specs.Numbers.{pick, rows_of}
 use Rattle.scheme.specs.Lwe.{add_words, row_of}
 use Rattle.scheme.specs.Checks.{Check, applies, first_in, refusal, all_of, modulus_fails, dimension_fails, length_fails, words_fail}
 use Rattle.scheme.proofs.Checks.{modulus_ok, dimension_ok, length_ok, words_ok}

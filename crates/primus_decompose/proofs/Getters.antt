@@ -1,7 +1,7 @@
 -- What a basis says of itself.
 -- Assumes nothing.
 use mathlib.Core.Path.{◌≡◌, sym, ap, ◌∙◌}
-use Prim.Native.Nat.{ℕ, ◌+◌, ◌-◌, ◌*◌, ◌%◌, ◌^◌}
+use Prim.Native.Nat.{ℕ, ◌+◌, ◌*◌, ◌%◌, ◌^◌}
 use lib.Dec.{ltb}
 use Rattle.scheme.specs.Numbers.{pick, tabulate}
 use Rattle.scheme.specs.Basis.{dropped}

@@ -15,7 +15,7 @@ use Rattle.scheme.proofs.Checks.{words_ok}
 use Rattle.scheme.proofs.Order.{passed}
 use Rattle.primus_reduce.specs.Ring.{size_of}
 use Rattle.primus_reduce.specs.declared.modulus.Modulus.{Modulus}
-use Rattle.primus_encoding.specs.Answers.{encode_word, encode_answer, decode_answer, or_zero}
+use Rattle.primus_encoding.specs.Answers.{encode_answer, decode_answer, or_zero}
 use Rattle.primus_encoding.specs.declared.PlaintextEmbedding.{PlaintextEmbedding}
 use Rattle.primus_encoding.proofs.Laws.{encode_passed, decode_passed}
 use Rattle.lwe_parameters.specs.declared.parameter.LweParameters.{LweParameters}

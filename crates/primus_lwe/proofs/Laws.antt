@@ -3,10 +3,10 @@
 use mathlib.Core.Path.{◌≡◌, ap, ap₂, ◌∙◌}
 use mathlib.Core.Bool.{Bool, false, ◌||◌}
 use mathlib.Core.List.{List, ◌++◌}
-use Prim.Native.Nat.{ℕ, ◌+◌, ◌-◌, ◌<◌}
+use Prim.Native.Nat.{ℕ, ◌+◌, ◌<◌}
 use native.Mathlib.Omega.{arith}
-use lib.IntN.{ℤ, pos}
-use lib.ListN.{length, take}
+use lib.IntN.{ℤ}
+use lib.ListN.{length}
 use Rattle.scheme.specs.Lwe.{Key, key_length, words}
 use Rattle.scheme.specs.Checks.{Check, applies, refusal, first_in, modulus_fails, plaintext_fails, small_fails, length_fails}
 use Rattle.scheme.proofs.Checks.{modulus_ok, length_ok}

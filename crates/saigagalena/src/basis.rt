@@ -9,7 +9,6 @@ ghost use Rattle.c_numbers.specs.Numbers.{switching_with};
 ghost use Rattle.c_numbers.specs.Lengths.{dimension_rows, packed_rows};
 ghost use Rattle.c_answers.specs.Service.{word_number};
 
-
 // k, B, L, d, H and T. Refuses by 1 to 3, 5, 11.
 #[unsafe(no_mangle)]
 pub extern "C" fn saigagalena_basis(

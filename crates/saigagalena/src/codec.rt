@@ -5,7 +5,6 @@ ghost use Rattle.primus_encoding.specs.Answers.{DecodesSlice, EncodesSlice};
 ghost use Rattle.c_numbers.specs.Numbers.{embedding_for};
 ghost use Rattle.c_numbers.specs.Service.{decode_number, encode_number};
 
-
 // encode(m), or 2^32 plus the first of 2, 7, 8, 16 that applies.
 #[unsafe(no_mangle)]
 pub extern "C" fn saigagalena_encode(modulus: u32, t: u32, centered: u32, message: u32) -> u64

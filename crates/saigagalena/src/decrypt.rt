@@ -6,7 +6,6 @@ ghost use Rattle.primus_lwe_packed.specs.Answers.{DecryptsPacked, TakesPackedPha
 ghost use Rattle.c_numbers.specs.Numbers.{decryption_with, phases_with};
 ghost use Rattle.c_answers.specs.Service.{Tells, word_number};
 
-
 // b − ⟨a, s⟩ modulo q, or 2^32 plus the first of 2, 6, 9, 10, 14 that applies.
 #[unsafe(no_mangle)]
 pub extern "C" fn saigagalena_decrypt_phase(

@@ -24,7 +24,16 @@ pub extern "C" fn saigagalena_encrypt_encoded(
         (Words secret.now) mask.now errors.now plaintext out.old x
         out.new) result }
 {
-    saigagalena_encrypt::saigagalena_encrypt_encoded(modulus, n, error_limit, secret, mask, errors, plaintext, out)
+    saigagalena_encrypt::saigagalena_encrypt_encoded(
+        modulus,
+        n,
+        error_limit,
+        secret,
+        mask,
+        errors,
+        plaintext,
+        out,
+    )
 }
 
 // saigagalena_encrypt_encoded under a signed key.
@@ -43,7 +52,16 @@ pub extern "C" fn saigagalena_encrypt_encoded_signed(
         (Signed secret.now) mask.now errors.now plaintext out.old x
         out.new) result }
 {
-    saigagalena_encrypt::saigagalena_encrypt_encoded_signed(modulus, n, error_limit, secret, mask, errors, plaintext, out)
+    saigagalena_encrypt::saigagalena_encrypt_encoded_signed(
+        modulus,
+        n,
+        error_limit,
+        secret,
+        mask,
+        errors,
+        plaintext,
+        out,
+    )
 }
 
 // An encryption of encode(m), with tally E. Refuses by 2, 6, 7, 8, 9, 11, 12, 13, 14, 15, 16.
@@ -64,7 +82,18 @@ pub extern "C" fn saigagalena_encrypt_message(
         (embedding_for centered) (Words secret.now) mask.now errors.now message
         out.old x out.new) result }
 {
-    saigagalena_encrypt::saigagalena_encrypt_message(modulus, n, t, error_limit, centered, secret, mask, errors, message, out)
+    saigagalena_encrypt::saigagalena_encrypt_message(
+        modulus,
+        n,
+        t,
+        error_limit,
+        centered,
+        secret,
+        mask,
+        errors,
+        message,
+        out,
+    )
 }
 
 // saigagalena_encrypt_message under a signed key.
@@ -85,7 +114,18 @@ pub extern "C" fn saigagalena_encrypt_message_signed(
         (embedding_for centered) (Signed secret.now) mask.now errors.now message
         out.old x out.new) result }
 {
-    saigagalena_encrypt::saigagalena_encrypt_message_signed(modulus, n, t, error_limit, centered, secret, mask, errors, message, out)
+    saigagalena_encrypt::saigagalena_encrypt_message_signed(
+        modulus,
+        n,
+        t,
+        error_limit,
+        centered,
+        secret,
+        mask,
+        errors,
+        message,
+        out,
+    )
 }
 
 // An encryption of encode(m) for each message, each with tally E. Refuses by 2, 6, 7, 8, 9, 11, 12, 13, 14, 15, 16.
@@ -106,7 +146,18 @@ pub extern "C" fn saigagalena_encrypt_message_batch(
         (embedding_for centered) (Words secret.now) masks.now errors.now
         messages.now out.old x out.new) result }
 {
-    saigagalena_encrypt::saigagalena_encrypt_message_batch(modulus, n, t, error_limit, centered, secret, masks, errors, messages, out)
+    saigagalena_encrypt::saigagalena_encrypt_message_batch(
+        modulus,
+        n,
+        t,
+        error_limit,
+        centered,
+        secret,
+        masks,
+        errors,
+        messages,
+        out,
+    )
 }
 
 // n mask words, then a body for each plaintext; no tally. Refuses by 2, 6, 9, 10, 11, 12, 13, 14, 15.
@@ -125,7 +176,16 @@ pub extern "C" fn saigagalena_encrypt_encoded_packed(
         mask.now errors.now plaintexts.now out.old x
         out.new) result }
 {
-    saigagalena_encrypt::saigagalena_encrypt_encoded_packed(modulus, n, error_limit, secret, mask, errors, plaintexts, out)
+    saigagalena_encrypt::saigagalena_encrypt_encoded_packed(
+        modulus,
+        n,
+        error_limit,
+        secret,
+        mask,
+        errors,
+        plaintexts,
+        out,
+    )
 }
 
 // n mask words, then a body for each message; no tally. Refuses by 2, 6, 7, 8, 9, 10, 11, 12, 13, 14, 15, 16.
@@ -146,5 +206,16 @@ pub extern "C" fn saigagalena_encrypt_message_packed(
         (embedding_for centered) secret.now mask.now errors.now messages.now
         out.old x out.new) result }
 {
-    saigagalena_encrypt::saigagalena_encrypt_message_packed(modulus, n, t, error_limit, centered, secret, mask, errors, messages, out)
+    saigagalena_encrypt::saigagalena_encrypt_message_packed(
+        modulus,
+        n,
+        t,
+        error_limit,
+        centered,
+        secret,
+        mask,
+        errors,
+        messages,
+        out,
+    )
 }

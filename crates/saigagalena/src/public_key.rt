@@ -20,7 +20,15 @@ pub extern "C" fn saigagalena_public_key_generate(
     ensures { GeneratesPublicKey (encryption_with modulus n error_limit) (Words secret.now)
         masks.now errors.now out.old result out.new }
 {
-    saigagalena_public_key::saigagalena_public_key_generate(modulus, n, error_limit, secret, masks, errors, out)
+    saigagalena_public_key::saigagalena_public_key_generate(
+        modulus,
+        n,
+        error_limit,
+        secret,
+        masks,
+        errors,
+        out,
+    )
 }
 
 // saigagalena_public_key_generate under a signed key.
@@ -37,7 +45,15 @@ pub extern "C" fn saigagalena_public_key_generate_signed(
     ensures { GeneratesPublicKey (encryption_with modulus n error_limit) (Signed secret.now)
         masks.now errors.now out.old result out.new }
 {
-    saigagalena_public_key::saigagalena_public_key_generate_signed(modulus, n, error_limit, secret, masks, errors, out)
+    saigagalena_public_key::saigagalena_public_key_generate_signed(
+        modulus,
+        n,
+        error_limit,
+        secret,
+        masks,
+        errors,
+        out,
+    )
 }
 
 // An encryption of p from n + 1 errors and n coefficients; no tally. Refuses by 2, 6, 9, 11, 12, 13, 14, 15.
@@ -55,7 +71,16 @@ pub extern "C" fn saigagalena_public_key_encrypt_encoded(
     ensures { Tells outcome_of (λ x. EncryptsPublic (encryption_with modulus n error_limit) key.now
         errors.now coefficients.now plaintext out.old x out.new) result }
 {
-    saigagalena_public_key::saigagalena_public_key_encrypt_encoded(modulus, n, error_limit, key, errors, coefficients, plaintext, out)
+    saigagalena_public_key::saigagalena_public_key_encrypt_encoded(
+        modulus,
+        n,
+        error_limit,
+        key,
+        errors,
+        coefficients,
+        plaintext,
+        out,
+    )
 }
 
 // An encryption of encode(m) under the public key; no tally. Refuses by 2, 6, 7, 8, 9, 11, 12, 13, 14, 15, 16.
@@ -76,5 +101,16 @@ pub extern "C" fn saigagalena_public_key_encrypt_message(
         (embedding_for centered) key.now errors.now coefficients.now message
         out.old x out.new) result }
 {
-    saigagalena_public_key::saigagalena_public_key_encrypt_message(modulus, n, t, error_limit, centered, key, errors, coefficients, message, out)
+    saigagalena_public_key::saigagalena_public_key_encrypt_message(
+        modulus,
+        n,
+        t,
+        error_limit,
+        centered,
+        key,
+        errors,
+        coefficients,
+        message,
+        out,
+    )
 }

@@ -26,7 +26,19 @@ pub extern "C" fn saigagalena_switching_key_generate(
         (Words input_key.now) output_key.now masks.now
         errors.now out.old result out.new }
 {
-    saigagalena_switch::saigagalena_switching_key_generate(modulus, base_log, levels, n, m, error_limit, input_key, output_key, masks, errors, out)
+    saigagalena_switch::saigagalena_switching_key_generate(
+        modulus,
+        base_log,
+        levels,
+        n,
+        m,
+        error_limit,
+        input_key,
+        output_key,
+        masks,
+        errors,
+        out,
+    )
 }
 
 // saigagalena_switching_key_generate from an input key of signed numbers.
@@ -48,7 +60,19 @@ pub extern "C" fn saigagalena_switching_key_generate_signed(
         (Signed input_key.now) output_key.now masks.now
         errors.now out.old result out.new }
 {
-    saigagalena_switch::saigagalena_switching_key_generate_signed(modulus, base_log, levels, n, m, error_limit, input_key, output_key, masks, errors, out)
+    saigagalena_switch::saigagalena_switching_key_generate_signed(
+        modulus,
+        base_log,
+        levels,
+        n,
+        m,
+        error_limit,
+        input_key,
+        output_key,
+        masks,
+        errors,
+        out,
+    )
 }
 
 // (0, b) minus the sum of digit(i, j) × entry(i, j) modulo q; no tally. Refuses by 1 to 3, 5, 6, 9, 10, 11, 14.
@@ -84,5 +108,7 @@ pub extern "C" fn saigagalena_key_switch_batch(
     ensures { Tells outcome_of (λ x. SwitchesBatch (switching_with modulus base_log levels n m)
         key.now input.now out.old x out.new) result }
 {
-    saigagalena_switch::saigagalena_key_switch_batch(modulus, base_log, levels, n, m, key, input, out)
+    saigagalena_switch::saigagalena_key_switch_batch(
+        modulus, base_log, levels, n, m, key, input, out,
+    )
 }

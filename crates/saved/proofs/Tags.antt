@@ -1,14 +1,14 @@
 -- The tag of a saved tally: 17 judges it as the tally, and where 17 does not apply it stands for it.
 -- Assumes nothing.
-use mathlib.Core.Path.{◌≡◌, refl, sym, ap, ◌∙◌}
+use mathlib.Core.Path.{◌≡◌, refl, sym, ◌∙◌}
 use mathlib.Core.Bool.{Bool, true, false}
 use mathlib.Core.List.{List}
-use Prim.Native.Nat.{ℕ, ◌+◌, ◌*◌, ◌-◌, ◌^◌}
+use Prim.Native.Nat.{ℕ, ◌+◌, ◌*◌, ◌-◌}
 use native.Mathlib.Omega.{arith}
 use lib.Dec.{eqb, ltb}
-use borrow.Author.Tests.{eqb-true, eq-eqb, ne_eqb, lt-ltb}
+use borrow.Author.Tests.{eqb-true, lt-ltb}
 use Rattle.scheme.specs.Numbers.{pick}
-use Rattle.scheme.specs.Tally.{Tally, Absent, Present, tally_fails}
+use Rattle.scheme.specs.Tally.{Absent, Present, tally_fails}
 use Rattle.little_endian.specs.Bytes.{word64}
 use Rattle.lwe_tag.specs.Answers.{cap, no_tally, meant_tally, tally_for, tally_of}
 use Rattle.saved_head.specs.Head.{beside_of, words_of}

@@ -1,4 +1,3 @@
-use borrow.Author.Rules.{rules}
 use Rattle.check_lengths.proofs.Laws.{batch_short}
 use Rattle.check_lengths.proofs.batch_differs.Goals as goal
 

@@ -1,5 +1,4 @@
-use borrow.Author.Rules.{rules}
-use Rattle.check_lengths.proofs.Laws.{runs_none, runs_cut, runs_whole}
+use Rattle.check_lengths.proofs.Laws.{runs_cut}
 use Rattle.check_lengths.proofs.runs_differ.Goals as goal
 
 pub returns-then-len-width-ne0 : goal.returns-then-len-width-ne0

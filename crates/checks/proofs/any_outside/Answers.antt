@@ -1,17 +1,15 @@
-use mathlib.Core.Logic.{⊎_elim}
 use mathlib.Core.Path.{◌≡◌, ap, ◌∙◌, subst}
-use Prim.Native.Nat.{◌≤◌, ◌<◌, ◌-◌}
+use Prim.Native.Nat.{◌≤◌, ◌<◌}
 use native.Mathlib.Omega.{arith}
 use lib.Dec.{ltb}
-use lib.IntN.{ℤ, pos, nat_abs}
-use lib.ListN.{length, get_or}
+use lib.IntN.{pos, nat_abs}
+use lib.ListN.{get_or}
 use mir.Syntax.{w32}
 use mir.Val.{SFits}
 use mir.Facts.{to_z-of_z}
-use borrow.Author.Rules.{rules}
 use borrow.Author.Tests.{lt-ltb, le-ltb}
 use Rattle.scheme.specs.Checks.{magnitudes_fail}
-use Rattle.checks.proofs.Laws.{any_fails, any_none, any_hit, any_more, any_all}
+use Rattle.checks.proofs.Laws.{any_none, any_hit, any_more, any_all}
 use Rattle.checks.proofs.any_outside.Goals as goal
 use Rattle.checks.proofs.any_outside.Goals.{then-limit-magnitude, else-limit-magnitude}
 

@@ -1,13 +1,9 @@
-use mathlib.Core.Logic.{⊎_elim}
-use mathlib.Core.Path.{◌≡◌, sym, ◌∙◌, ap}
-use mathlib.Core.Bool.{Bool}
-use Prim.Native.Nat.{◌≤◌, ◌-◌, ◌+◌}
+use mathlib.Core.Path.{◌∙◌}
 use native.Mathlib.Omega.{arith}
 use lib.Dec.{ltb}
-use lib.ListN.{length}
 use borrow.Author.Tests.{lt-ltb, le-ltb}
 use Rattle.scheme.specs.Checks.{words_fail}
-use Rattle.checks.proofs.Laws.{any_fails, any_none, any_hit, any_more, any_all}
+use Rattle.checks.proofs.Laws.{any_none, any_hit, any_more, any_all}
 use Rattle.checks.proofs.any_refused.Goals as goal
 use Rattle.checks.proofs.any_refused.Goals.{then-q-s, else-q-s}
 

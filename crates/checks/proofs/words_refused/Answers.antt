@@ -1,5 +1,4 @@
 use Prim.Native.Nat.{◌^◌}
-use borrow.Author.Rules.{rules}
 use Rattle.checks.proofs.Laws.{words-below}
 use Rattle.checks.proofs.words_refused.Goals as goal
 

@@ -1,4 +1,3 @@
-use borrow.Author.Rules.{rules}
 use Rattle.gadget_digits.proofs.Steps.{above_none}
 use Rattle.gadget_digits.proofs.above.Goals as goal
 

@@ -1,5 +1,4 @@
-use borrow.Author.Rules.{rules}
-use Rattle.gadget_digits.proofs.Steps.{half_test, half_none}
+use Rattle.gadget_digits.proofs.Steps.{half_none}
 use Rattle.gadget_digits.proofs.below_half.Goals as goal
 
 pub returns : goal.returns

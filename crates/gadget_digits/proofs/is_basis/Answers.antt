@@ -1,5 +1,4 @@
-use borrow.Author.Rules.{rules}
-use Rattle.gadget_digits.proofs.Steps.{basis_test, basis_none}
+use Rattle.gadget_digits.proofs.Steps.{basis_none}
 use Rattle.gadget_digits.proofs.is_basis.Goals as goal
 
 pub returns : goal.returns

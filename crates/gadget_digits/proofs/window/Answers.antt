@@ -1,6 +1,4 @@
-use native.Mathlib.Omega.{arith}
-use borrow.Author.Rules.{rules}
-use Rattle.gadget_digits.proofs.Steps.{mask_positive, window_mask, window_all}
+use Rattle.gadget_digits.proofs.Steps.{window_mask, window_all}
 use Rattle.gadget_digits.proofs.window.Goals as goal
 
 pub returns-then-log-lt32 : goal.returns-then-log-lt32

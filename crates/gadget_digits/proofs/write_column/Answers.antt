@@ -1,9 +1,8 @@
-use Prim.Native.Nat.{◌≤◌, ◌<◌, ◌-◌, ◌*◌, ◌+◌}
-use mathlib.Core.Path.{◌≡◌, ap, ◌∙◌}
+use Prim.Native.Nat.{◌<◌, ◌*◌, ◌+◌}
+use mathlib.Core.Path.{ap, ◌∙◌}
 use native.Mathlib.Omega.{arith}
 use lib.ListN.{length}
-use Rattle.gadget_digits.specs.Column.{after, Column}
-use Rattle.gadget_digits.proofs.Columns.{place_below, column_none, column_next, column_all, after_none, after_next}
+use Rattle.gadget_digits.proofs.Columns.{place_below, column_none, column_next, after_none, after_next}
 use Rattle.gadget_digits.proofs.write_column.Goals as goal
 
 pub loop-j-init : goal.loop-j-init

@@ -1,9 +1,6 @@
-use Prim.Native.Nat.{◌≤◌, ◌<◌, ◌-◌, ◌*◌, ◌+◌}
-use mathlib.Core.Path.{◌≡◌, ap, ◌∙◌}
-use native.Mathlib.Omega.{arith}
-use lib.ListN.{length}
+use Prim.Native.Nat.{◌≤◌, ◌-◌}
+use mathlib.Core.Path.{◌≡◌}
 use Rattle.gadget_digits.specs.Column.{after, Column}
-use Rattle.gadget_digits.proofs.Columns.{place_below, column_none, column_next, column_all, after_none, after_next}
 use Rattle.gadget_digits.proofs.write_column.Given as goal
 
 abbrev pub invariant-loop-j : goal.invariant-loop-j

@@ -1,5 +1,4 @@
-use borrow.Author.Rules.{rules}
-use Rattle.gadget_parameters.proofs.Laws.{base_test, base-over}
+use Rattle.gadget_parameters.proofs.Laws.{base-over}
 use Rattle.gadget_parameters.proofs.below_basis.Goals as goal
 
 pub returns : goal.returns

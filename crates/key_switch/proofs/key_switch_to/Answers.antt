@@ -1,9 +1,8 @@
 use mathlib.Core.Path.{◌≡◌, sym, ◌∙◌}
 use Prim.Native.Nat.{◌+◌}
-use borrow.Author.Rules.{rules}
 use lib.ListN.{length}
 use Rattle.scheme.specs.Checks.{refusal}
-use Rattle.lwe_tag.proofs.Writes.{refused, done}
+use Rattle.lwe_tag.proofs.Writes.{done}
 use Rattle.scheme.proofs.Switch.{one_switch}
 use Rattle.primus_decompose.specs.Answers.{basis}
 use Rattle.key_switch_parameters.specs.Answers.{n_in, m_in}

@@ -1,5 +1,4 @@
-use borrow.Author.Rules.{rules}
-use Rattle.key_switch_accumulate.proofs.Rows.{roomy_small, roomy_large, less-small, less_large}
+use Rattle.key_switch_accumulate.proofs.Rows.{less-small, less_large}
 use Rattle.key_switch_accumulate.proofs.accumulate_entry.Goals as goal
 
 pub returns-then-digit-half : goal.returns-then-digit-half

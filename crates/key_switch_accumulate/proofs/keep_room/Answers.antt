@@ -1,4 +1,3 @@
-use borrow.Author.Rules.{rules}
 use Rattle.key_switch_accumulate.proofs.Rows.{kept_reduced, kept_still}
 use Rattle.key_switch_accumulate.proofs.keep_room.Goals as goal
 

@@ -1,8 +1,6 @@
 use mathlib.Core.Path.{refl, sym}
-use Prim.Native.Nat.{◌-◌}
 use native.Mathlib.Omega.{arith}
-use lib.ListN.{length}
-use Rattle.scheme.proofs.InPlace.{Filled, filled_start, filled_next, filled_end}
+use Rattle.scheme.proofs.InPlace.{filled_start, filled_next, filled_end}
 use Rattle.key_switch_accumulate.proofs.load.Goals as goal
 
 -- no goal for cast-acc : tie.Need-overflow-cast-acc invariant-loop decreases-loop

@@ -1,8 +1,7 @@
-use mathlib.Core.List.{map}
-use Prim.Native.Nat.{◌-◌, ◌%◌}
+use Prim.Native.Nat.{◌%◌}
 use native.Mathlib.Omega.{arith}
-use lib.ListN.{length, length-map}
-use Rattle.scheme.proofs.InPlace.{Filled, filled_start, filled_end, mapped_next_in_place}
+use lib.ListN.{length-map}
+use Rattle.scheme.proofs.InPlace.{filled_start, filled_end, mapped_next_in_place}
 use Rattle.key_switch_accumulate.proofs.reduce_all.Goals as goal
 
 pub loop-k-init : goal.loop-k-init

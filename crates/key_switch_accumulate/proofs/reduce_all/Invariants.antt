@@ -1,8 +1,7 @@
 use mathlib.Core.List.{map}
 use Prim.Native.Nat.{◌-◌, ◌%◌}
-use native.Mathlib.Omega.{arith}
-use lib.ListN.{length, length-map}
-use Rattle.scheme.proofs.InPlace.{Filled, filled_start, filled_end, mapped_next_in_place}
+use lib.ListN.{length}
+use Rattle.scheme.proofs.InPlace.{Filled}
 use Rattle.key_switch_accumulate.proofs.reduce_all.Given as goal
 
 abbrev pub invariant-loop-k : goal.invariant-loop-k

@@ -1,9 +1,8 @@
 use mathlib.Core.Path.{sym, ◌∙◌}
-use mathlib.Core.List.{map}
-use Prim.Native.Nat.{◌-◌, ◌%◌}
+use Prim.Native.Nat.{◌%◌}
 use native.Mathlib.Omega.{arith}
-use lib.ListN.{length, length-map}
-use Rattle.scheme.proofs.InPlace.{Filled, filled_start, filled_end, mapped_next}
+use lib.ListN.{length-map}
+use Rattle.scheme.proofs.InPlace.{filled_start, filled_end, mapped_next}
 use Rattle.key_switch_accumulate.proofs.reduce_to.Goals as goal
 
 pub loop-k-init : goal.loop-k-init

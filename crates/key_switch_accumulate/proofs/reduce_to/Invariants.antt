@@ -1,9 +1,7 @@
-use mathlib.Core.Path.{sym, ◌∙◌}
 use mathlib.Core.List.{map}
 use Prim.Native.Nat.{◌-◌, ◌%◌}
-use native.Mathlib.Omega.{arith}
-use lib.ListN.{length, length-map}
-use Rattle.scheme.proofs.InPlace.{Filled, filled_start, filled_end, mapped_next}
+use lib.ListN.{length}
+use Rattle.scheme.proofs.InPlace.{Filled}
 use Rattle.key_switch_accumulate.proofs.reduce_to.Given as goal
 
 abbrev pub invariant-loop-k : goal.invariant-loop-k

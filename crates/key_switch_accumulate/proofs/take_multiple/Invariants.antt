@@ -1,9 +1,7 @@
 use mathlib.Core.List.{zip_with}
 use Prim.Native.Nat.{◌+◌, ◌-◌, ◌*◌}
-use native.Mathlib.Omega.{arith}
 use lib.ListN.{length}
-use Rattle.scheme.proofs.InPlace.{Filled, filled_start, filled_end, zipped_next, length_zip}
-use Rattle.key_switch_accumulate.proofs.Rows.{at_acc, room-less}
+use Rattle.scheme.proofs.InPlace.{Filled}
 use Rattle.key_switch_accumulate.proofs.take_multiple.Given as goal
 
 abbrev pub invariant-loop-k : goal.invariant-loop-k

@@ -1,10 +1,8 @@
 use Prim.Native.Nat.{◌-◌}
-use native.Mathlib.Omega.{arith}
-use borrow.Author.Rules.{rules}
 use lib.ListN.{length}
 use Rattle.scheme.specs.Lwe.{words as words_of, secret_of}
 use Rattle.lwe_secret_key.specs.Key.{key_of}
-use Rattle.key_switch_entries.proofs.Entries.{Entering, Entered, entering, levels-some, level_in, row_asks, entered_start, entered_on, entered_end}
+use Rattle.key_switch_entries.proofs.Entries.{Entered}
 use Rattle.key_switch_entries.proofs.write_entries.Given as goal
 
 abbrev pub invariant-loop-k : goal.invariant-loop-k

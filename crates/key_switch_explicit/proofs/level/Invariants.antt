@@ -1,6 +1,5 @@
 use Prim.Native.Nat.{◌-◌, ◌*◌}
-use native.Mathlib.Omega.{arith}
-use Rattle.key_switch_tile.proofs.Levels.{Rowing, rowing_start, rowing_end, in_acc, in_lanes, row_asks, rowing_on}
+use Rattle.key_switch_tile.proofs.Levels.{Rowing}
 use Rattle.key_switch_explicit.proofs.level.Given as goal
 
 abbrev pub invariant-loop-t : goal.invariant-loop-t

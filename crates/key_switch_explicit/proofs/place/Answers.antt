@@ -1,7 +1,5 @@
 use mathlib.Core.Path.{refl}
-use Prim.Native.Nat.{◌-◌, ◌*◌}
-use native.Mathlib.Omega.{arith}
-use Rattle.key_switch_tile.proofs.Places.{Sinking, sinking_start, sinking_end, in_key, level_asks, level_room, sinking_on}
+use Rattle.key_switch_tile.proofs.Places.{sinking_start, level_asks, level_room, sinking_on}
 use Rattle.key_switch_explicit.proofs.place.Goals as goal
 
 pub loop-j-init : goal.loop-j-init

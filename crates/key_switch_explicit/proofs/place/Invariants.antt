@@ -1,7 +1,5 @@
-use mathlib.Core.Path.{refl}
 use Prim.Native.Nat.{◌-◌, ◌*◌}
-use native.Mathlib.Omega.{arith}
-use Rattle.key_switch_tile.proofs.Places.{Sinking, sinking_start, sinking_end, in_key, level_asks, level_room, sinking_on}
+use Rattle.key_switch_tile.proofs.Places.{Sinking}
 use Rattle.key_switch_explicit.proofs.place.Given as goal
 
 abbrev pub invariant-loop-j : goal.invariant-loop-j

@@ -1,9 +1,5 @@
-use mathlib.Core.Path.{sym, ◌∙◌, ap, subst}
-use Prim.Native.Nat.{◌<◌}
-use lib.ListN.{length}
-use borrow.Author.Rules.{rules}
+use mathlib.Core.Path.{ap}
 use Rattle.primus_reduce.specs.Ring.{size_of}
-use Rattle.key_switch_tile.proofs.Walks.{q_pos, begun-length}
 use Rattle.key_switch_explicit.proofs.Walking.{reduced}
 use Rattle.key_switch_explicit.proofs.switch_tile.Goals as goal
 

@@ -1,9 +1,9 @@
-use mathlib.Core.Path.{refl, sym, ◌∙◌, ap}
+use mathlib.Core.Path.{refl, ap}
 use Prim.Native.Nat.{◌-◌}
 use native.Mathlib.Omega.{arith}
 use Rattle.primus_reduce.specs.Ring.{size_of}
-use Rattle.key_switch_tile.proofs.Walks.{log_limits, levels-least, span_fits, place_in, reached_start}
-use Rattle.key_switch_explicit.proofs.Walking.{Costs, Walking, cost_small, room_asks, walking_start, walking_end, ceiling_fits, walk_asks, walk_room, walking_on}
+use Rattle.key_switch_tile.proofs.Walks.{levels-least, place_in}
+use Rattle.key_switch_explicit.proofs.Walking.{Costs, cost_small, room_asks, walking_start, walk_asks, walk_room, walking_on}
 use Rattle.key_switch_explicit.proofs.walk.Goals as goal
 
 pub cost_of-cost-requires : goal.cost_of-cost-requires

@@ -1,7 +1,7 @@
 use Prim.Native.Nat.{ℕ, ◌+◌, ◌-◌, ◌*◌, ◌≤◌}
 use native.Mathlib.Omega.{arith}
 use lib.ListN.{length, length-replicate}
-use Rattle.key_switch_kernel.proofs.Batches.{accumulators, Batching, batching_start, batching_end, few, insides, acc_inside, tile_shaped, out_sized, batching_on, acc_sized, acc_back}
+use Rattle.key_switch_kernel.proofs.Batches.{accumulators, batching_start, batching_end, insides, batching_on, acc_back}
 use Rattle.key_switch_kernel.proofs.switch_tiles.Goals as goal
 
 pub loop-done-init : goal.loop-done-init

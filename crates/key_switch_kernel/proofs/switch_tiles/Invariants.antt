@@ -1,7 +1,6 @@
-use Prim.Native.Nat.{ℕ, ◌+◌, ◌-◌, ◌*◌, ◌≤◌}
-use native.Mathlib.Omega.{arith}
-use lib.ListN.{length, length-replicate}
-use Rattle.key_switch_kernel.proofs.Batches.{accumulators, Batching, batching_start, batching_end, few, insides, acc_inside, tile_shaped, out_sized, batching_on, acc_sized, acc_back}
+use Prim.Native.Nat.{◌-◌}
+use lib.ListN.{length}
+use Rattle.key_switch_kernel.proofs.Batches.{Batching}
 use Rattle.key_switch_kernel.proofs.switch_tiles.Given as goal
 
 abbrev pub invariant-loop-done : goal.invariant-loop-done

@@ -1,5 +1,4 @@
-use Rattle.std.proofs.Common.{rules}
-use Rattle.key_switch_native.proofs.Rows.{less_none, less_as}
+use Rattle.key_switch_native.proofs.Rows.{less_none}
 use Rattle.key_switch_native.proofs.accumulate_entry.Goals as goal
 
 pub returns-in-0 : goal.returns-in-0

@@ -1,5 +1,4 @@
-use Rattle.std.proofs.Common.{◌-◌, ◌^◌, arith}
-use Rattle.key_switch_tile.proofs.Levels.{Rowing, rowing_start, rowing_end, in_acc, in_lanes, part_wide, rowing_on}
+use Rattle.key_switch_tile.proofs.Levels.{rowing_on}
 use Rattle.key_switch_native.proofs.level.Goals as goal
 
 pub loop-t-preserved : goal.loop-t-preserved

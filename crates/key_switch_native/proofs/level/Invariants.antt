@@ -1,5 +1,5 @@
-use Rattle.std.proofs.Common.{◌-◌, ◌^◌, arith}
-use Rattle.key_switch_tile.proofs.Levels.{Rowing, rowing_start, rowing_end, in_acc, in_lanes, part_wide, rowing_on}
+use Rattle.std.proofs.Common.{◌-◌, ◌^◌}
+use Rattle.key_switch_tile.proofs.Levels.{Rowing}
 use Rattle.key_switch_native.proofs.level.Given as goal
 
 abbrev pub invariant-loop-t : goal.invariant-loop-t

@@ -1,5 +1,4 @@
-use Rattle.std.proofs.Common.{◌-◌, ◌^◌, arith}
-use Rattle.key_switch_tile.proofs.Places.{Sinking, sinking_start, sinking_end, in_key, level_asks, sinking_on}
+use Rattle.key_switch_tile.proofs.Places.{sinking_start, sinking_on}
 use Rattle.key_switch_native.proofs.place.Goals as goal
 
 pub loop-j-init : goal.loop-j-init

@@ -1,5 +1,5 @@
-use Rattle.std.proofs.Common.{◌-◌, ◌^◌, arith}
-use Rattle.key_switch_tile.proofs.Places.{Sinking, sinking_start, sinking_end, in_key, level_asks, sinking_on}
+use Rattle.std.proofs.Common.{◌-◌, ◌^◌}
+use Rattle.key_switch_tile.proofs.Places.{Sinking}
 use Rattle.key_switch_native.proofs.place.Given as goal
 
 abbrev pub invariant-loop-j : goal.invariant-loop-j

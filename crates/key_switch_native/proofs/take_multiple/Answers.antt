@@ -1,6 +1,5 @@
-use mathlib.Core.List.{zip_with}
-use Rattle.std.proofs.Common.{◌-◌, length, arith}
-use Rattle.scheme.proofs.InPlace.{Filled, filled_start, filled_end, zipped_next, length_zip}
+use Rattle.std.proofs.Common.{arith}
+use Rattle.scheme.proofs.InPlace.{filled_start, filled_end, zipped_next, length_zip}
 use Rattle.key_switch_native.proofs.Rows.{wrapped, less_wrapped}
 use Rattle.key_switch_native.proofs.take_multiple.Goals as goal
 

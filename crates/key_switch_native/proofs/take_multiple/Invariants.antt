@@ -1,7 +1,7 @@
 use mathlib.Core.List.{zip_with}
-use Rattle.std.proofs.Common.{◌-◌, length, arith}
-use Rattle.scheme.proofs.InPlace.{Filled, filled_start, filled_end, zipped_next, length_zip}
-use Rattle.key_switch_native.proofs.Rows.{wrapped, less_wrapped}
+use Rattle.std.proofs.Common.{◌-◌, length}
+use Rattle.scheme.proofs.InPlace.{Filled}
+use Rattle.key_switch_native.proofs.Rows.{wrapped}
 use Rattle.key_switch_native.proofs.take_multiple.Given as goal
 
 abbrev pub invariant-loop-k : goal.invariant-loop-k

@@ -1,7 +1,7 @@
-use Rattle.std.proofs.Common.{◌-◌, sym, ap, ◌∙◌, arith}
+use Rattle.std.proofs.Common.{ap, arith}
 use Rattle.primus_reduce.specs.Ring.{size_of}
-use Rattle.key_switch_tile.proofs.Walks.{span_fits, place_in, place_asks, reached_start}
-use Rattle.key_switch_native.proofs.Wrapping.{Wrapping, wrapping_start, wrapping_on, wrapping_end}
+use Rattle.key_switch_tile.proofs.Walks.{place_in}
+use Rattle.key_switch_native.proofs.Wrapping.{wrapping_start, wrapping_on, wrapping_end}
 use Rattle.key_switch_native.proofs.walk.Goals as goal
 
 pub loop-i-init : goal.loop-i-init

@@ -1,7 +1,5 @@
-use mathlib.Core.Path.{refl}
-use Prim.Native.Nat.{◌+◌, ◌-◌}
-use native.Mathlib.Omega.{arith}
-use Rattle.key_switch_tile.proofs.Lanes.{in_run, Opening, opening_start, opening_end, opening_on}
+use Prim.Native.Nat.{◌-◌}
+use Rattle.key_switch_tile.proofs.Lanes.{Opening}
 use Rattle.key_switch_tile.proofs.lanes_of.Given as goal
 
 abbrev pub invariant-loop-t : goal.invariant-loop-t

@@ -1,10 +1,4 @@
-use mathlib.Core.Path.{◌∙◌}
-use Prim.Native.Nat.{◌+◌, ◌-◌, ◌*◌}
-use native.Mathlib.Omega.{arith}
-use lib.ListN.{length-drop}
-use lib.Seq.{length-take-le}
-use Rattle.scheme.proofs.Rows.{filling_room, filling_end}
-use Rattle.key_switch_tile.proofs.Lanes.{in_run, Starting, starting_start, starting_on}
+use Rattle.key_switch_tile.proofs.Lanes.{starting_start, starting_on}
 use Rattle.key_switch_tile.proofs.start.Goals as goal
 
 -- no goal for part-start-row-end : tie.Need-slice-bounds-start-row-end invariant-loop decreases-loop

@@ -1,10 +1,5 @@
-use mathlib.Core.Path.{◌∙◌}
-use Prim.Native.Nat.{◌+◌, ◌-◌, ◌*◌}
-use native.Mathlib.Omega.{arith}
-use lib.ListN.{length-drop}
-use lib.Seq.{length-take-le}
-use Rattle.scheme.proofs.Rows.{filling_room, filling_end}
-use Rattle.key_switch_tile.proofs.Lanes.{in_run, Starting, starting_start, starting_on}
+use Prim.Native.Nat.{◌-◌}
+use Rattle.key_switch_tile.proofs.Lanes.{Starting}
 use Rattle.key_switch_tile.proofs.start.Given as goal
 
 abbrev pub invariant-loop-t : goal.invariant-loop-t

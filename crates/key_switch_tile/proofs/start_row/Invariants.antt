@@ -1,12 +1,7 @@
-use mathlib.Core.Path.{sym, ◌∙◌}
 use Prim.Native.Nat.{◌+◌, ◌-◌, ◌≤◌}
-use native.Mathlib.Omega.{arith}
 use lib.Dec.{eqb}
-use lib.ListN.{set}
 use Rattle.scheme.specs.Numbers.{pick, tabulate}
-use Rattle.scheme.proofs.Lists.{length-tabulate}
-use Rattle.scheme.proofs.InPlace.{Filled, filled_start, filled_next, filled_end}
-use Rattle.key_switch_tile.proofs.Lanes.{start_mask, start_body}
+use Rattle.scheme.proofs.InPlace.{Filled}
 use Rattle.key_switch_tile.proofs.start_row.Given as goal
 
 abbrev pub invariant-loop-k : goal.invariant-loop-k

@@ -1,4 +1,3 @@
-use borrow.Author.Rules.{rules}
 use Rattle.little_endian.specs.Bytes.{word32}
 use Rattle.little_endian.proofs.Laws.{four, none32}
 use Rattle.little_endian.proofs.u32_at.Goals as goal

@@ -1,4 +1,3 @@
-use borrow.Author.Rules.{rules}
 use Rattle.little_endian.proofs.Laws.{none64, halves}
 use Rattle.little_endian.proofs.u64_at.Goals as goal
 

@@ -1,10 +1,6 @@
-use mathlib.Core.Path.{sym, ap, ◌∙◌}
+use mathlib.Core.Path.{sym, ◌∙◌}
 use native.Mathlib.Omega.{arith}
-use borrow.Author.Rules.{rules}
 use lib.ListN.{length}
-use Rattle.scheme.specs.Lwe.{extracted}
-use Rattle.lwe_tag.proofs.Writes.{refused, done}
-use Rattle.primus_reduce.specs.Ring.{size_of}
 use Rattle.lwe_samples.proofs.Laws.{extractable}
 use Rattle.lwe_samples.proofs.extract_lwe_at.Goals as goal
 

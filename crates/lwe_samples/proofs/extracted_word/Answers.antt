@@ -1,7 +1,6 @@
-use mathlib.Core.Path.{◌≡◌, sym, ap, ◌∙◌}
+use mathlib.Core.Path.{sym, ap, ◌∙◌}
 use Prim.Native.Nat.{◌+◌, ◌-◌}
 use native.Mathlib.Omega.{arith}
-use borrow.Author.Rules.{rules}
 use lib.ListN.{get_or}
 use Rattle.scheme.specs.Lwe.{extracted}
 use Rattle.scheme.proofs.Extract.{extracted_wrapped, extracted_rest, extracted_body}

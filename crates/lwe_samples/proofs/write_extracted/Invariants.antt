@@ -1,10 +1,7 @@
-use mathlib.Core.Path.{◌≡◌, sym, ◌∙◌}
 use Prim.Native.Nat.{◌-◌}
-use native.Mathlib.Omega.{arith}
 use lib.ListN.{length}
 use Rattle.scheme.specs.Lwe.{extracted}
-use Rattle.scheme.proofs.Extract.{extracted-length}
-use Rattle.scheme.proofs.InPlace.{Filled, filled_start, filled_next, filled_end}
+use Rattle.scheme.proofs.InPlace.{Filled}
 use Rattle.primus_reduce.specs.Ring.{size_of}
 use Rattle.lwe_samples.proofs.write_extracted.Given as goal
 

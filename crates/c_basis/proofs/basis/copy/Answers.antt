@@ -1,9 +1,6 @@
 use mathlib.Core.Path.{refl, sym}
-use Prim.Native.Nat.{◌-◌, ◌≤◌}
 use native.Mathlib.Omega.{arith}
-use lib.ListN.{length}
-use lib.Seq.{get_or_at}
-use Rattle.scheme.proofs.InPlace.{Filled, filled_start, filled_next, filled_end}
+use Rattle.scheme.proofs.InPlace.{filled_start, filled_next, filled_end}
 use Rattle.c_basis.proofs.basis.copy.Goals as goal
 
 pub loop-i-init : goal.loop-i-init

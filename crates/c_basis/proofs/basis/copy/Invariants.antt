@@ -1,9 +1,6 @@
-use mathlib.Core.Path.{refl, sym}
 use Prim.Native.Nat.{◌-◌, ◌≤◌}
-use native.Mathlib.Omega.{arith}
 use lib.ListN.{length}
-use lib.Seq.{get_or_at}
-use Rattle.scheme.proofs.InPlace.{Filled, filled_start, filled_next, filled_end}
+use Rattle.scheme.proofs.InPlace.{Filled}
 use Rattle.c_basis.proofs.basis.copy.Given as goal
 
 abbrev pub invariant-loop-i : goal.invariant-loop-i

@@ -6,7 +6,6 @@ use lib.ListN.{length, set}
 use mir.Facts.{to_z-of_z}
 use mir.Syntax.{w64}
 use mir.Val.{SFits}
-use borrow.Author.Rules.{rules}
 use Rattle.c_basis.proofs.basis.write_answer.Goals as goal
 
 two : (xs : List ℤ) (a b : ℤ) → length xs ≡ 2 → set (set xs 0 a) 1 b ≡ a ∷ b ∷ []

@@ -1,7 +1,5 @@
-use mathlib.Core.Path.{◌≡◌, refl, sym, ◌∙◌}
+use mathlib.Core.Path.{sym, ◌∙◌}
 use native.Mathlib.Omega.{arith}
-use Rattle.scheme.proofs.Order.{told, given}
-use Rattle.checks.specs.declared.WordAnswer.TheVariants.{Refused}
 use Rattle.c_numbers.proofs.Allocated.{Packs, packs}
 use Rattle.c_numbers.proofs.lengths.packed_words.Goals as goal
 

@@ -1,4 +1,4 @@
-use mathlib.Core.Path.{◌≡◌, refl}
+use mathlib.Core.Path.{refl}
 use Rattle.scheme.specs.Checks.{applies, first_in}
 use Rattle.check_order.proofs.Down.{down}
 use Rattle.check_order.proofs.Values.first.Goals as goal

@@ -1,4 +1,3 @@
-use borrow.Author.Rules.{rules}
 use Rattle.codec_words.proofs.Laws.{centered_fits, centered_from, centered_until}
 use Rattle.codec_words.proofs.helpers.encode_centered.Goals as goal
 

@@ -1,8 +1,5 @@
 use mathlib.Core.Path.{◌∙◌}
-use native.Mathlib.Omega.{arith}
-use borrow.Author.Rules.{rules}
 use Rattle.scheme.proofs.Codec.{switch_half}
-use Rattle.codec_words.proofs.Laws.{product-most}
 use Rattle.codec_words.proofs.helpers.switch_value.Goals as goal
 
 pub returns : goal.returns

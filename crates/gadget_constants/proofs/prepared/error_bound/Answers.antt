@@ -1,4 +1,3 @@
-use Rattle.std.proofs.Common.{rules}
 use Rattle.gadget_constants.proofs.Constants.{bound_none, bound_some}
 use Rattle.gadget_constants.proofs.prepared.error_bound.Goals as goal
 

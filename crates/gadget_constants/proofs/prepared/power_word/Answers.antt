@@ -1,5 +1,4 @@
-use Rattle.std.proofs.Common.{rules}
-use Rattle.gadget_constants.proofs.Getters.{power_over, power_under}
+use Rattle.gadget_constants.proofs.Getters.{power_over}
 use Rattle.gadget_constants.proofs.prepared.power_word.Goals as goal
 
 pub returns-else-n-lt32 : goal.returns-else-n-lt32

@@ -2,7 +2,7 @@ use Rattle.std.proofs.Common.{arith}
 use Rattle.primus_reduce.specs.Ring.{meant}
 use Rattle.scheme.proofs.Checks.{Sound}
 use Rattle.gadget_constants.proofs.Sound.{sound-basis}
-use Rattle.gadget_constants.proofs.Constants.{levels-most, room_of, product-fits, narrow_of, covered_of, base_of, add-fits, offset_fits, ready_of, prepared_is}
+use Rattle.gadget_constants.proofs.Constants.{levels-most, room_of, product-fits, narrow_of, covered_of, base_of, add-fits, ready_of, prepared_is}
 use Rattle.gadget_constants.proofs.prepared.prepare.Goals as goal
 
 pub overflow_cast-count : goal.overflow_cast-count

@@ -1,7 +1,6 @@
-use Rattle.std.proofs.Common.{◌≡◌, ℕ, ◌-◌, ◌<◌, ◌≤◌, length, get_or, refl, arith, length-set}
+use Rattle.std.proofs.Common.{arith}
 use Rattle.scheme.proofs.Lists.{is-tabulate}
 use Rattle.gadget_constants.specs.Prepared.{scalar_at}
-use Rattle.gadget_constants.proofs.Getters.{store_next}
 use Rattle.gadget_constants.proofs.prepared.scalars_from.Goals as goal
 
 pub returns : goal.returns

@@ -1,7 +1,5 @@
-use Rattle.std.proofs.Common.{◌≡◌, ℕ, ◌-◌, ◌<◌, ◌≤◌, length, get_or, refl, arith, length-set}
-use Rattle.scheme.proofs.Lists.{is-tabulate}
+use Rattle.std.proofs.Common.{◌≡◌, ℕ, ◌-◌, ◌<◌, ◌≤◌, length, get_or}
 use Rattle.gadget_constants.specs.Prepared.{scalar_at}
-use Rattle.gadget_constants.proofs.Getters.{store_next}
 use Rattle.gadget_constants.proofs.prepared.scalars_from.Given as goal
 
 abbrev pub invariant-loop-j : goal.invariant-loop-j

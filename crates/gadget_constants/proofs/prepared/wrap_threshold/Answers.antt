@@ -1,4 +1,4 @@
-use Rattle.std.proofs.Common.{◌*◌, ◌^◌, max, refl, ap, ◌∙◌, lt_of_lt_of_le, lit≤, rules}
+use Rattle.std.proofs.Common.{◌*◌, ◌^◌, max, refl}
 use Rattle.scheme.specs.Basis.{bound_of}
 use Rattle.gadget_constants.proofs.Constants.{Steps, threshold_steps}
 use Rattle.gadget_constants.proofs.prepared.wrap_threshold.Goals as goal

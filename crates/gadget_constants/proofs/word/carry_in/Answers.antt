@@ -1,4 +1,3 @@
-use Rattle.std.proofs.Common.{rules}
 use Rattle.gadget_constants.proofs.Constants.{carry_none, carry_beyond, carry-some}
 use Rattle.gadget_constants.proofs.word.carry_in.Goals as goal
 

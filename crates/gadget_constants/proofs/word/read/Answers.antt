@@ -1,9 +1,6 @@
-use Rattle.std.proofs.Common.{◌+◌, ◌%◌, ◌^◌, ◌<◌, ◌≤◌, refl, ◌∙◌, mod-lt, arith, pow_pos, to_z-of_z, w64, rules}
-use lib.Pow.{pow-lt}
-use Rattle.scheme.proofs.Modulus.{size-most}
-use Rattle.primus_reduce.specs.Ring.{meant}
+use Rattle.std.proofs.Common.{◌<◌, refl, ◌∙◌, arith, to_z-of_z, w64, rules}
 use Rattle.gadget_constants.proofs.Constants.{dropped-most, init_ready}
-use Rattle.gadget_constants.proofs.Signs.{read_is, lost_most}
+use Rattle.gadget_constants.proofs.Signs.{read_is}
 use Rattle.gadget_constants.proofs.word.read.Goals as goal
 
 -- no goal for rem-rest : tie.Need-nonzero-rem-rest

@@ -1,7 +1,7 @@
-use Rattle.std.proofs.Common.{◌≡◌, ◌-◌, ◌*◌, ◌≤◌, length, sym, refl, ap, ◌∙◌, arith}
+use Rattle.std.proofs.Common.{◌∙◌, arith}
 use Rattle.gadget_constants.specs.Prepared.{basis_in}
 use Rattle.gadget_constants.proofs.Constants.{decomposer_ready}
-use Rattle.gadget_constants.proofs.Columns.{Written, written_none, written_next, written_all}
+use Rattle.gadget_constants.proofs.Columns.{written_next, written_all}
 use Rattle.gadget_constants.proofs.word.write_columns.Goals as goal
 
 pub loop-i-preserved : goal.loop-i-preserved

@@ -1,5 +1,4 @@
 use mathlib.Core.Path.{sym, ◌∙◌}
-use borrow.Author.Rules.{rules}
 use Rattle.gadget_digits.proofs.Steps.{step_small, step_top, step_large}
 use Rattle.gadget_digits.proofs.SignedDecomposer.step.Goals as goal
 

@@ -1,12 +1,8 @@
 use mathlib.Core.Path.{◌≡◌, sym, ap, ◌∙◌}
 use Prim.Native.Nat.{◌+◌, ◌/◌}
-use borrow.Author.Rules.{rules}
 use lib.ListN.{length}
-use Rattle.scheme.specs.Switch.{switched_batch}
 use Rattle.scheme.specs.Checks.{refusal}
-use Rattle.lwe_tag.proofs.Writes.{refused, done}
-use Rattle.primus_decompose.specs.Answers.{basis}
-use Rattle.key_switch_parameters.specs.Answers.{n_in, m_in}
+use Rattle.key_switch_parameters.specs.Answers.{n_in}
 use Rattle.key_switch.specs.Answers.{batch_rows}
 use Rattle.key_switch.proofs.Passed.{batch_number, rows_passed}
 use Rattle.key_switch.proofs.batch.key_switch_batch_to.Goals as goal

@@ -1,7 +1,5 @@
 use mathlib.Core.Path.{sym, ◌∙◌}
-use borrow.Author.Rules.{rules}
 use lib.ListN.{length}
-use Rattle.scheme.proofs.Order.{refused, done}
 use Rattle.lwe_secret_key.specs.Key.{key_of}
 use Rattle.key_switch_entries.proofs.Entries.{Unrefused, generable}
 use Rattle.key_switch_key.proofs.key.generate_from.Goals as goal

@@ -1,4 +1,3 @@
-use mathlib.Core.Path.{◌≡◌}
 use mathlib.Core.List.{List}
 use borrow.Author.Rules.{rules}
 use Rattle.scheme.specs.Checks.{Check}

@@ -1,4 +1,3 @@
-use native.Mathlib.Omega.{arith}
 use Rattle.scheme.specs.Lwe.{words}
 use Rattle.primus_reduce.specs.Ring.{size_of}
 use Rattle.lwe_packing.proofs.Laws.{packed-is}

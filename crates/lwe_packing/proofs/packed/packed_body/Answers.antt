@@ -1,5 +1,3 @@
-use mathlib.Core.Path.{◌≡◌}
-use native.Mathlib.Omega.{arith}
 use lib.ListN.{length}
 use Rattle.scheme.specs.Lwe.{words, signed}
 use Rattle.primus_reduce.specs.Ring.{size_of}

@@ -1,7 +1,6 @@
-use mathlib.Core.Path.{◌≡◌, ap, ◌∙◌}
+use mathlib.Core.Path.{ap, ◌∙◌}
 use Prim.Native.Nat.{◌-◌}
 use native.Mathlib.Omega.{arith}
-use borrow.Author.Rules.{rules}
 use lib.IntN.{pos, ◌+ℤ◌}
 use lib.ListN.{length}
 use Rattle.scheme.specs.Numbers.{residue}

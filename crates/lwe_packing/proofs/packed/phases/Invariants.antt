@@ -1,9 +1,8 @@
 use Prim.Native.Nat.{◌-◌}
-use native.Mathlib.Omega.{arith}
 use lib.ListN.{length}
 use Rattle.scheme.specs.Numbers.{tabulate}
 use Rattle.scheme.specs.Lwe.{words, packed_phase}
-use Rattle.scheme.proofs.InPlace.{Filled, filled_end, tabled_start, tabled_next}
+use Rattle.scheme.proofs.InPlace.{Filled}
 use Rattle.primus_reduce.specs.Ring.{size_of}
 use Rattle.lwe_packing.proofs.packed.phases.Given as goal
 

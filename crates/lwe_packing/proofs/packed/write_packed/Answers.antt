@@ -1,9 +1,8 @@
-use mathlib.Core.Path.{◌≡◌, sym, ◌∙◌}
-use Prim.Native.Nat.{◌-◌}
+use mathlib.Core.Path.{sym, ◌∙◌}
 use native.Mathlib.Omega.{arith}
 use lib.ListN.{length}
-use Rattle.scheme.specs.Lwe.{words, signed, packed}
-use Rattle.scheme.proofs.InPlace.{Filled, filled_start, filled_next, filled_end}
+use Rattle.scheme.specs.Lwe.{words, signed}
+use Rattle.scheme.proofs.InPlace.{filled_start, filled_next, filled_end}
 use Rattle.primus_reduce.specs.Ring.{size_of}
 use Rattle.lwe_packing.specs.Packing.{plaintexts}
 use Rattle.lwe_packing.proofs.Laws.{packed-length}

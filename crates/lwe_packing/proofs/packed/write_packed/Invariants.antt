@@ -1,12 +1,9 @@
-use mathlib.Core.Path.{◌≡◌, sym, ◌∙◌}
 use Prim.Native.Nat.{◌-◌}
-use native.Mathlib.Omega.{arith}
 use lib.ListN.{length}
 use Rattle.scheme.specs.Lwe.{words, signed, packed}
-use Rattle.scheme.proofs.InPlace.{Filled, filled_start, filled_next, filled_end}
+use Rattle.scheme.proofs.InPlace.{Filled}
 use Rattle.primus_reduce.specs.Ring.{size_of}
 use Rattle.lwe_packing.specs.Packing.{plaintexts}
-use Rattle.lwe_packing.proofs.Laws.{packed-length}
 use Rattle.lwe_packing.proofs.packed.write_packed.Given as goal
 
 abbrev pub invariant-loop-k : goal.invariant-loop-k

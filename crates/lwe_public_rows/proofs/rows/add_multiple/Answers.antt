@@ -1,5 +1,5 @@
 use mathlib.Core.Path.{◌≡◌, sym, ap, subst, ◌∙◌}
-use mathlib.Core.Bool.{true, false}
+use mathlib.Core.Bool.{false}
 use mathlib.Core.List.{zip_with}
 use lib.IntN.{ℤ, pos}
 use lib.Signed.{lt_z}
@@ -7,10 +7,9 @@ use lib.ListN.{get_or}
 use mir.Syntax.{w32}
 use mir.Val.{SFits}
 use mir.Facts.{to_z-of_z}
-use borrow.Author.Rules.{rules}
 use Rattle.primus_reduce.specs.Ring.{size_of}
 use Rattle.lwe_public_rows.specs.Public.{plus_times}
-use Rattle.lwe_public_rows.proofs.Laws.{no_row, coefficient_one, coefficient_minus, coefficient_none}
+use Rattle.lwe_public_rows.proofs.Laws.{no_row, coefficient_none}
 use Rattle.lwe_public_rows.proofs.rows.add_multiple.Goals as goal
 
 pub returns-else-r-lt0 : goal.returns-else-r-lt0

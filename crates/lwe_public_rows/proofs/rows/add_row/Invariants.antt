@@ -1,8 +1,7 @@
 use mathlib.Core.List.{zip_with}
 use Prim.Native.Nat.{◌-◌}
-use native.Mathlib.Omega.{arith}
 use lib.ListN.{length}
-use Rattle.scheme.proofs.InPlace.{Filled, filled_start, zipped_next, filled_end, length_zip}
+use Rattle.scheme.proofs.InPlace.{Filled}
 use Rattle.primus_reduce.specs.Ring.{size_of}
 use Rattle.lwe_public_rows.specs.Public.{sign, plus_times}
 use Rattle.lwe_public_rows.proofs.rows.add_row.Given as goal

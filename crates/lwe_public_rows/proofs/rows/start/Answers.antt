@@ -1,9 +1,6 @@
-use Prim.Native.Nat.{◌-◌}
 use native.Mathlib.Omega.{arith}
-use lib.ListN.{length}
-use Rattle.scheme.specs.Numbers.{tabulate}
 use Rattle.scheme.specs.Lwe.{signed}
-use Rattle.scheme.proofs.InPlace.{Filled, tabled_start, tabled_next, filled_end}
+use Rattle.scheme.proofs.InPlace.{tabled_start, tabled_next, filled_end}
 use Rattle.primus_reduce.specs.Ring.{size_of}
 use Rattle.lwe_public_rows.specs.Public.{start_word}
 use Rattle.lwe_public_rows.proofs.rows.start.Goals as goal

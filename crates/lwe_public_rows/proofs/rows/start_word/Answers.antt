@@ -1,4 +1,3 @@
-use borrow.Author.Rules.{rules}
 use Rattle.scheme.specs.Lwe.{signed}
 use Rattle.primus_reduce.specs.Ring.{size_of}
 use Rattle.lwe_public_rows.proofs.Laws.{start_body, start_mask}

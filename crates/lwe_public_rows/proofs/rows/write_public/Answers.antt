@@ -1,12 +1,11 @@
-use mathlib.Core.Path.{◌≡◌, refl, sym, ◌∙◌}
-use Prim.Native.Nat.{◌+◌, ◌*◌, ◌-◌, ◌≤◌}
+use mathlib.Core.Path.{◌≡◌}
 use native.Mathlib.Omega.{arith}
 use lib.IntN.{pos}
 use lib.ListN.{length}
 use Rattle.scheme.specs.Lwe.{signed}
-use Rattle.scheme.proofs.Public.{Upto, upto_end}
+use Rattle.scheme.proofs.Public.{upto_end}
 use Rattle.primus_reduce.specs.Ring.{size_of}
-use Rattle.lwe_public_rows.proofs.Laws.{public_start, public_part, public_same, public_below, public_next}
+use Rattle.lwe_public_rows.proofs.Laws.{public_start, public_same, public_below, public_next}
 use Rattle.lwe_public_rows.proofs.rows.write_public.Goals as goal
 
 pub loop-i-init : goal.loop-i-init

@@ -1,12 +1,9 @@
-use mathlib.Core.Path.{◌≡◌, refl, sym, ◌∙◌}
-use Prim.Native.Nat.{◌+◌, ◌*◌, ◌-◌, ◌≤◌}
-use native.Mathlib.Omega.{arith}
+use Prim.Native.Nat.{◌-◌, ◌≤◌}
 use lib.IntN.{pos}
 use lib.ListN.{length}
 use Rattle.scheme.specs.Lwe.{signed}
-use Rattle.scheme.proofs.Public.{Upto, upto_end}
+use Rattle.scheme.proofs.Public.{Upto}
 use Rattle.primus_reduce.specs.Ring.{size_of}
-use Rattle.lwe_public_rows.proofs.Laws.{public_start, public_part, public_same, public_below, public_next}
 use Rattle.lwe_public_rows.proofs.rows.write_public.Given as goal
 
 abbrev pub invariant-loop-i : goal.invariant-loop-i

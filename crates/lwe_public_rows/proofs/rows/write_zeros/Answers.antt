@@ -1,12 +1,7 @@
-use mathlib.Core.Path.{◌≡◌}
-use Prim.Native.Nat.{◌+◌, ◌*◌, ◌-◌, ◌≤◌}
-use native.Mathlib.Omega.{arith}
-use lib.ListN.{length}
 use Rattle.scheme.specs.Lwe.{signed, secret_of}
-use Rattle.scheme.proofs.Rows.{Filling, filling_room}
 use Rattle.primus_reduce.specs.Ring.{size_of}
 use Rattle.lwe_secret_key.specs.Key.{key_of}
-use Rattle.lwe_public_rows.proofs.Laws.{zero_row, zeros_start, zeros_mask, zeros_sizes, zeros_next, zeros_end}
+use Rattle.lwe_public_rows.proofs.Laws.{zeros_start, zeros_next, zeros_end}
 use Rattle.lwe_public_rows.proofs.rows.write_zeros.Goals as goal
 
 pub loop-i-init : goal.loop-i-init

@@ -1,12 +1,9 @@
-use mathlib.Core.Path.{◌≡◌}
-use Prim.Native.Nat.{◌+◌, ◌*◌, ◌-◌, ◌≤◌}
-use native.Mathlib.Omega.{arith}
-use lib.ListN.{length}
+use Prim.Native.Nat.{◌+◌, ◌-◌}
 use Rattle.scheme.specs.Lwe.{signed, secret_of}
-use Rattle.scheme.proofs.Rows.{Filling, filling_room}
+use Rattle.scheme.proofs.Rows.{Filling}
 use Rattle.primus_reduce.specs.Ring.{size_of}
 use Rattle.lwe_secret_key.specs.Key.{key_of}
-use Rattle.lwe_public_rows.proofs.Laws.{zero_row, zeros_start, zeros_mask, zeros_sizes, zeros_next, zeros_end}
+use Rattle.lwe_public_rows.proofs.Laws.{zero_row}
 use Rattle.lwe_public_rows.proofs.rows.write_zeros.Given as goal
 
 abbrev pub invariant-loop-i : goal.invariant-loop-i

@@ -1,11 +1,7 @@
 use mathlib.Core.Path.{sym, ap, ◌∙◌}
 use native.Mathlib.Omega.{arith}
-use mir.Syntax.{w32}
-use mir.Val.{SFits}
-use mir.Facts.{to_z-of_z}
-use borrow.Author.Rules.{rules}
 use lib.IntN.{pos}
-use lib.ListN.{get_or, get_or-eq_default}
+use lib.ListN.{get_or-eq_default}
 use Rattle.primus_reduce.specs.Ring.{size_of, modulo}
 use Rattle.lwe_secret_key.proofs.Laws.{no_number}
 use Rattle.lwe_secret_key.proofs.form.error_residue.Goals as goal

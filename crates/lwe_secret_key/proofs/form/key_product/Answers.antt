@@ -1,5 +1,4 @@
 use mathlib.Core.Path.{ap, ◌∙◌}
-use borrow.Author.Rules.{rules}
 use Rattle.primus_reduce.specs.Ring.{size_of, modulo}
 use Rattle.lwe_secret_key.proofs.Laws.{dot-inner, dot-inner-signed}
 use Rattle.lwe_secret_key.proofs.form.key_product.Goals as goal

@@ -1,6 +1,5 @@
 use mathlib.Core.Path.{sym, ap, ◌∙◌}
 use native.Mathlib.Omega.{arith}
-use borrow.Author.Rules.{rules}
 use lib.IntN.{pos}
 use lib.ListN.{get_or-eq_default}
 use Rattle.primus_reduce.specs.Ring.{size_of, modulo}

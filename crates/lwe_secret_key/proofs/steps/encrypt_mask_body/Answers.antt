@@ -1,6 +1,5 @@
 use mathlib.Core.Path.{ap, ◌∙◌}
 use mathlib.Core.List.{[], ◌∷◌, ◌++◌}
-use borrow.Author.Rules.{rules}
 use Rattle.primus_reduce.specs.Ring.{size_of}
 use Rattle.lwe_secret_key.proofs.Laws.{body_is}
 use Rattle.lwe_secret_key.proofs.steps.encrypt_mask_body.Goals as goal

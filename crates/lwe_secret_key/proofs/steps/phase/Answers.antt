@@ -1,5 +1,3 @@
-use native.Mathlib.Omega.{arith}
-use borrow.Author.Rules.{rules}
 use Rattle.primus_reduce.specs.Ring.{size_of}
 use Rattle.lwe_secret_key.specs.Key.{key_of}
 use Rattle.lwe_secret_key.proofs.Laws.{phase-is}

@@ -1,8 +1,8 @@
 use mathlib.Core.Path.{sym, ◌∙◌}
 use mathlib.Core.List.{[], ◌∷◌, ◌++◌}
-use Prim.Native.Nat.{◌+◌, ◌-◌, ◌≤◌}
+use Prim.Native.Nat.{◌+◌}
 use native.Mathlib.Omega.{arith}
-use lib.ListN.{length, set}
+use lib.ListN.{set}
 use Rattle.scheme.proofs.InPlace.{Filled, filled_start, filled_next, filled_end}
 use Rattle.lwe_secret_key.proofs.Laws.{made_length, made_mask, made_body}
 use Rattle.lwe_secret_key.proofs.steps.write.Goals as goal

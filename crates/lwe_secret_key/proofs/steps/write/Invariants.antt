@@ -1,10 +1,7 @@
-use mathlib.Core.Path.{sym, ◌∙◌}
 use mathlib.Core.List.{[], ◌∷◌, ◌++◌}
-use Prim.Native.Nat.{◌+◌, ◌-◌, ◌≤◌}
-use native.Mathlib.Omega.{arith}
-use lib.ListN.{length, set}
-use Rattle.scheme.proofs.InPlace.{Filled, filled_start, filled_next, filled_end}
-use Rattle.lwe_secret_key.proofs.Laws.{made_length, made_mask, made_body}
+use Prim.Native.Nat.{◌-◌, ◌≤◌}
+use lib.ListN.{length}
+use Rattle.scheme.proofs.InPlace.{Filled}
 use Rattle.lwe_secret_key.proofs.steps.write.Given as goal
 
 abbrev pub invariant-loop-i : goal.invariant-loop-i

@@ -1,10 +1,7 @@
-use mathlib.Core.Path.{sym, ap, ap₂, ◌∙◌}
-use Rattle.scheme.specs.Tally.{good}
+use mathlib.Core.Path.{sym, ◌∙◌}
 use Rattle.scheme.proofs.Checks.{plaintext_ok}
-use Rattle.scheme.proofs.Order.{passed, told, given}
-use Rattle.lwe_tag.specs.declared.Tally.{Tally}
-use Rattle.lwe_tag.specs.declared.MarkAnswer.TheVariants.{Mark, Refused}
-use Rattle.lwe_tag.specs.Answers.{meant_tally, mark_rows}
+use Rattle.scheme.proofs.Order.{passed}
+use Rattle.lwe_tag.specs.Answers.{mark_rows}
 use Rattle.lwe_tag.proofs.Laws.{size-most}
 use Rattle.lwe_tag.proofs.LweTag.is_good.Goals as goal
 

@@ -1,9 +1,7 @@
-use mathlib.Core.Logic.{⊎_elim}
-use mathlib.Core.Path.{◌≡◌, ◌∙◌}
-use Prim.Native.Nat.{◌≤◌, ◌-◌}
+use mathlib.Core.Path.{◌∙◌}
 use native.Mathlib.Omega.{arith}
 use lib.Dec.{ltb}
-use Rattle.checks.proofs.Laws.{any_fails, any_none}
+use Rattle.checks.proofs.Laws.{any_none}
 use Rattle.primus_reduce.specs.Ring.{size_of}
 use Rattle.saved.specs.Layout.{file_word, file_words}
 use Rattle.pooling_rows.proofs.Laws.{scan_hit, scan_more}

@@ -1,13 +1,9 @@
-use mathlib.Core.Logic.{⊎_elim}
-use mathlib.Core.Path.{◌≡◌, ◌∙◌}
+use mathlib.Core.Path.{◌≡◌}
 use Prim.Native.Nat.{◌≤◌, ◌-◌}
-use native.Mathlib.Omega.{arith}
 use lib.Dec.{ltb}
-use Rattle.checks.proofs.Laws.{any_fails, any_none}
+use Rattle.checks.proofs.Laws.{any_fails}
 use Rattle.primus_reduce.specs.Ring.{size_of}
-use Rattle.saved.specs.Layout.{file_word, file_words}
-use Rattle.pooling_rows.proofs.Laws.{scan_hit, scan_more}
-use Rattle.pooling_refusals.proofs.Laws.{words_end, word_hit, word_passes}
+use Rattle.saved.specs.Layout.{file_words}
 use Rattle.pooling_refusals.proofs.total.file_words_refused.Given as goal
 
 abbrev pub invariant-loop-i : goal.invariant-loop-i

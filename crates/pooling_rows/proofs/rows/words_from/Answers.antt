@@ -1,9 +1,7 @@
-use Prim.Native.Nat.{◌+◌, ◌-◌}
+use Prim.Native.Nat.{◌+◌}
 use native.Mathlib.Omega.{arith}
-use lib.ListN.{length}
-use Rattle.scheme.proofs.InPlace.{Filled, filled_end, tabled_start, tabled_next}
+use Rattle.scheme.proofs.InPlace.{filled_end, tabled_start, tabled_next}
 use Rattle.saved.specs.Layout.{file_word}
-use Rattle.pooling_rows.specs.Rows.{words_from}
 use Rattle.pooling_rows.proofs.rows.words_from.Goals as goal
 
 pub loop-k-init : goal.loop-k-init

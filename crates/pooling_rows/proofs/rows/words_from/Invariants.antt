@@ -1,8 +1,6 @@
-use Prim.Native.Nat.{◌+◌, ◌-◌}
-use native.Mathlib.Omega.{arith}
+use Prim.Native.Nat.{◌-◌}
 use lib.ListN.{length}
-use Rattle.scheme.proofs.InPlace.{Filled, filled_end, tabled_start, tabled_next}
-use Rattle.saved.specs.Layout.{file_word}
+use Rattle.scheme.proofs.InPlace.{Filled}
 use Rattle.pooling_rows.specs.Rows.{words_from}
 use Rattle.pooling_rows.proofs.rows.words_from.Given as goal
 

@@ -1,12 +1,11 @@
-use mathlib.Core.Logic.{⊎_elim}
-use mathlib.Core.Path.{◌≡◌, sym, ap, ◌∙◌}
+use mathlib.Core.Path.{sym, ap, ◌∙◌}
 use mathlib.Core.Bool.{Bool, not}
-use Prim.Native.Nat.{ℕ, ◌≤◌, ◌-◌}
+use Prim.Native.Nat.{ℕ}
 use native.Mathlib.Omega.{arith}
 use Rattle.scheme.specs.Tally.{tally_fails}
 use Rattle.lwe_tag.specs.Answers.{cap, tally_of}
 use Rattle.saved.specs.Layout.{saved_tag}
-use Rattle.checks.proofs.Laws.{any_fails, any_none}
+use Rattle.checks.proofs.Laws.{any_none}
 use Rattle.scheme.specs.Numbers.{tabulate}
 use Rattle.pooling_rows.specs.Rows.{saved_fail}
 use Rattle.pooling_rows.proofs.Laws.{scan_hit, scan_more, scan_end}

@@ -1,10 +1,9 @@
-use mathlib.Core.Logic.{⊎_elim}
-use mathlib.Core.Path.{◌≡◌, sym, ap, ◌∙◌}
+use mathlib.Core.Path.{sym, ap, ◌∙◌}
 use mathlib.Core.Bool.{Bool, not}
-use Prim.Native.Nat.{ℕ, ◌≤◌, ◌-◌}
+use Prim.Native.Nat.{ℕ}
 use native.Mathlib.Omega.{arith}
 use lib.ListN.{length}
-use Rattle.checks.proofs.Laws.{any_fails, any_none}
+use Rattle.checks.proofs.Laws.{any_none}
 use Rattle.scheme.specs.Numbers.{tabulate}
 use Rattle.pooling_rows.specs.Rows.{place_fails, tallies_fail}
 use Rattle.pooling_rows.proofs.Laws.{scan_hit, scan_more, scan_end}

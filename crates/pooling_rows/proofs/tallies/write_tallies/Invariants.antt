@@ -1,9 +1,6 @@
-use mathlib.Core.Path.{ap, ◌∙◌}
 use Prim.Native.Nat.{◌-◌}
-use native.Mathlib.Omega.{arith}
 use lib.ListN.{length}
-use Rattle.scheme.proofs.InPlace.{Filled, filled_end, tabled_start, tabled_next}
-use Rattle.saved.specs.Layout.{saved_tag}
+use Rattle.scheme.proofs.InPlace.{Filled}
 use Rattle.pooling_rows.specs.Rows.{saved_tallies}
 use Rattle.pooling_rows.proofs.tallies.write_tallies.Given as goal
 

@@ -1,6 +1,4 @@
 use mathlib.Core.Path.{sym, ◌∙◌}
-use borrow.Author.Rules.{rules}
-use Rattle.scheme.proofs.Order.{refused, done}
 use Rattle.primus_encoding.proofs.Laws.{codable}
 use Rattle.primus_encoding.proofs.coding.code_slice_assign.Goals as goal
 

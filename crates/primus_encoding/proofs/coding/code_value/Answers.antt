@@ -1,4 +1,3 @@
-use borrow.Author.Rules.{rules}
 use Rattle.primus_encoding.proofs.Laws.{value_refused, value_given}
 use Rattle.primus_encoding.proofs.coding.code_value.Goals as goal
 

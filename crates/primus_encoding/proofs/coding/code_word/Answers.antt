@@ -1,12 +1,8 @@
 use mathlib.Core.Path.{ap, ◌∙◌}
 use native.Mathlib.Omega.{arith}
-use borrow.Author.Rules.{rules}
-use Rattle.scheme.specs.Codec.{decode}
-use Rattle.scheme.proofs.Checks.{message_ok}
 use Rattle.primus_reduce.specs.Ring.{size_of}
-use Rattle.codec_words.specs.Words.{Moduli}
 use Rattle.primus_encoding.specs.Answers.{encode_word}
-use Rattle.primus_encoding.proofs.Laws.{add_is, moduli_of}
+use Rattle.primus_encoding.proofs.Laws.{add_is}
 use Rattle.primus_encoding.proofs.coding.code_word.Goals as goal
 
 pub returns-in-AddEncoding : goal.returns-in-AddEncoding

@@ -1,9 +1,8 @@
 use mathlib.Core.Path.{refl, ap, ◌∙◌}
-use Prim.Native.Nat.{◌-◌}
 use native.Mathlib.Omega.{arith}
-use lib.ListN.{length, get_or}
-use Rattle.scheme.proofs.InPlace.{Filled, filled_word, filled_end}
-use Rattle.primus_encoding.specs.Coding.{coded, coded_word, message_fault}
+use lib.ListN.{get_or}
+use Rattle.scheme.proofs.InPlace.{filled_word, filled_end}
+use Rattle.primus_encoding.specs.Coding.{coded_word, message_fault}
 use Rattle.primus_encoding.proofs.Laws.{message_at, coded-start, coded-next}
 use Rattle.primus_encoding.proofs.coding.replace_words.Goals as goal
 

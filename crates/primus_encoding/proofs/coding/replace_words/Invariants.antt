@@ -1,10 +1,7 @@
-use mathlib.Core.Path.{refl, ap, ◌∙◌}
 use Prim.Native.Nat.{◌-◌}
-use native.Mathlib.Omega.{arith}
-use lib.ListN.{length, get_or}
-use Rattle.scheme.proofs.InPlace.{Filled, filled_word, filled_end}
-use Rattle.primus_encoding.specs.Coding.{coded, coded_word, message_fault}
-use Rattle.primus_encoding.proofs.Laws.{message_at, coded-start, coded-next}
+use lib.ListN.{length}
+use Rattle.scheme.proofs.InPlace.{Filled}
+use Rattle.primus_encoding.specs.Coding.{coded}
 use Rattle.primus_encoding.proofs.coding.replace_words.Given as goal
 
 abbrev pub invariant-loop-i : goal.invariant-loop-i

@@ -1,8 +1,5 @@
-use Prim.Native.Nat.{◌-◌}
 use native.Mathlib.Omega.{arith}
-use lib.ListN.{length}
-use Rattle.scheme.proofs.InPlace.{Filled, filled_end}
-use Rattle.primus_encoding.specs.Coding.{coded}
+use Rattle.scheme.proofs.InPlace.{filled_end}
 use Rattle.primus_encoding.proofs.Laws.{message_at, coded-start, coded-next}
 use Rattle.primus_encoding.proofs.coding.write_words.Goals as goal
 

@@ -1,9 +1,7 @@
 use Prim.Native.Nat.{◌-◌}
-use native.Mathlib.Omega.{arith}
 use lib.ListN.{length}
-use Rattle.scheme.proofs.InPlace.{Filled, filled_end}
+use Rattle.scheme.proofs.InPlace.{Filled}
 use Rattle.primus_encoding.specs.Coding.{coded}
-use Rattle.primus_encoding.proofs.Laws.{message_at, coded-start, coded-next}
 use Rattle.primus_encoding.proofs.coding.write_words.Given as goal
 
 abbrev pub invariant-loop-i : goal.invariant-loop-i

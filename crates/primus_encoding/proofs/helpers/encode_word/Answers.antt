@@ -1,4 +1,3 @@
-use borrow.Author.Rules.{rules}
 use Rattle.scheme.specs.Codec.{Unsigned, Centered}
 use Rattle.primus_encoding.proofs.Laws.{encoding_fits}
 use Rattle.primus_encoding.proofs.helpers.encode_word.Goals as goal

@@ -1,7 +1,7 @@
-use Rattle.std.proofs.Common.{◌≡◌, sym, ◌∙◌, rules}
+use Rattle.std.proofs.Common.{sym, ◌∙◌}
 use Rattle.primus_reduce.specs.Ring.{size_of}
 use Rattle.lwe_tag.proofs.Laws.{sum-within}
-use Rattle.lwe_tag.proofs.Writes.{refused, done}
+use Rattle.lwe_tag.proofs.Writes.{done}
 use Rattle.primus_lattice.proofs.Laws.{Addable, addable}
 use Rattle.primus_lattice.proofs.single_message.add_assign.Goals as goal
 

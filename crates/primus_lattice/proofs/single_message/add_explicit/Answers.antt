@@ -1,7 +1,6 @@
-use Rattle.std.proofs.Common.{◌+◌, ◌-◌, ◌%◌, ◌<◌, length, sym, subst, arith}
-use Rattle.scheme.specs.Lwe.{add_words}
+use Rattle.std.proofs.Common.{◌+◌, ◌%◌, ◌<◌, sym, subst, arith}
 use Rattle.scheme.proofs.Checks.{words_ok}
-use Rattle.scheme.proofs.InPlace.{Filled, filled_start, filled_word, zipped_next, filled_end, length_zip}
+use Rattle.scheme.proofs.InPlace.{filled_start, filled_word, zipped_next, filled_end, length_zip}
 use Rattle.primus_lattice.proofs.single_message.add_explicit.Goals as goal
 
 pub loop-i-init : goal.loop-i-init

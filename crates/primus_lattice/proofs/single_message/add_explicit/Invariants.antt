@@ -1,7 +1,6 @@
-use Rattle.std.proofs.Common.{◌+◌, ◌-◌, ◌%◌, ◌<◌, length, sym, subst, arith}
+use Rattle.std.proofs.Common.{◌-◌, length}
 use Rattle.scheme.specs.Lwe.{add_words}
-use Rattle.scheme.proofs.Checks.{words_ok}
-use Rattle.scheme.proofs.InPlace.{Filled, filled_start, filled_word, zipped_next, filled_end, length_zip}
+use Rattle.scheme.proofs.InPlace.{Filled}
 use Rattle.primus_lattice.proofs.single_message.add_explicit.Given as goal
 
 abbrev pub invariant-loop-i : goal.invariant-loop-i

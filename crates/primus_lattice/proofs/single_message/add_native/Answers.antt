@@ -1,6 +1,5 @@
-use Rattle.std.proofs.Common.{◌+◌, ◌-◌, ◌%◌, ◌^◌, length, arith}
-use Rattle.scheme.specs.Lwe.{add_words}
-use Rattle.scheme.proofs.InPlace.{Filled, filled_start, zipped_next, filled_end, length_zip}
+use Rattle.std.proofs.Common.{◌+◌, ◌%◌, ◌^◌, arith}
+use Rattle.scheme.proofs.InPlace.{filled_start, zipped_next, filled_end, length_zip}
 use Rattle.primus_lattice.proofs.single_message.add_native.Goals as goal
 
 pub loop-i-init : goal.loop-i-init

@@ -1,9 +1,8 @@
-use mathlib.Core.Path.{◌≡◌, sym, ap₂, ◌∙◌}
+use mathlib.Core.Path.{sym, ap₂, ◌∙◌}
 use Prim.Native.Nat.{ℕ}
-use borrow.Author.Rules.{rules}
 use lib.ListN.{length}
 use Rattle.scheme.specs.Lwe.{Words, words, signed, encrypted_rows}
-use Rattle.lwe_tag.proofs.Writes.{refused, done}
+use Rattle.lwe_tag.proofs.Writes.{done}
 use Rattle.primus_reduce.specs.Ring.{size_of}
 use Rattle.primus_lwe.specs.Answers.{encodings}
 use Rattle.primus_lwe_batch.proofs.Laws.{Batchable, batchable}

@@ -1,10 +1,8 @@
-use Prim.Native.Nat.{◌+◌, ◌-◌}
-use native.Mathlib.Omega.{arith}
+use Prim.Native.Nat.{◌-◌}
 use lib.ListN.{length}
 use Rattle.scheme.specs.Numbers.{tabulate}
 use Rattle.scheme.specs.Lwe.{Words}
-use Rattle.scheme.proofs.InPlace.{Filled, tabled_start, tabled_next, filled_end}
-use Rattle.scheme.proofs.Rows.{row_within}
+use Rattle.scheme.proofs.InPlace.{Filled}
 use Rattle.primus_reduce.specs.Ring.{size_of}
 use Rattle.primus_lwe_batch.specs.Answers.{batch_phase}
 use Rattle.primus_lwe_batch.proofs.message_batch.row_phases.Given as goal

@@ -1,15 +1,10 @@
 use Prim.Native.Nat.{◌-◌}
-use native.Mathlib.Omega.{arith}
-use borrow.Author.Rules.{rules}
 use lib.IntN.{pos}
 use lib.ListN.{length, get_or}
 use Rattle.scheme.specs.Lwe.{words, signed}
-use Rattle.scheme.proofs.Rows.{filling_room}
 use Rattle.primus_reduce.specs.Ring.{size_of}
 use Rattle.primus_encoding.specs.Answers.{encode_word}
-use Rattle.primus_lwe.specs.Answers.{encodings}
-use Rattle.primus_lwe.proofs.Coded.{encoded_at}
-use Rattle.lwe_secret_key.proofs.Runs.{Rows, rows_start, rows_mask, rows_more, rows_done}
+use Rattle.lwe_secret_key.proofs.Runs.{Rows}
 use Rattle.primus_lwe_batch.proofs.message_batch.write_messages.Given as goal
 
 -- PARAMS ['out₀', 'embedding', 'secret', 'masks', 'errors', 'messages', 'modulus', 't', 'n', 'i₀', 'none', 'out', 'i'] vs ['l.initial.out', 'l.embedding', 'l.secret', 'l.masks', 'l.errors', 'l.messages', 'l.modulus', 'l.t', 'l.n', 'l.initial.i', 'l.out', 'l.i']

@@ -1,11 +1,9 @@
-use mathlib.Core.Path.{◌≡◌, sym, ap₂, ◌∙◌}
-use Prim.Native.Nat.{ℕ, ◌+◌, ◌-◌, ◌≤◌}
+use mathlib.Core.Path.{sym, ap₂, ◌∙◌}
+use Prim.Native.Nat.{ℕ, ◌-◌}
 use native.Mathlib.Omega.{arith}
-use borrow.Author.Rules.{rules}
 use lib.ListN.{length}
 use Rattle.scheme.specs.Numbers.{tabulate}
 use Rattle.scheme.specs.Lwe.{words, packed_phase}
-use Rattle.scheme.proofs.Order.{refused}
 use Rattle.primus_reduce.specs.Ring.{size_of}
 use Rattle.primus_lwe.specs.Answers.{Codable}
 use Rattle.primus_lwe.proofs.Decoded.{slice_decoded, done_by}

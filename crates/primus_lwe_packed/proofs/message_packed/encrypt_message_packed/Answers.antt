@@ -1,7 +1,6 @@
-use mathlib.Core.Path.{◌≡◌, sym, ◌∙◌}
-use borrow.Author.Rules.{rules}
+use mathlib.Core.Path.{sym, ◌∙◌}
 use lib.ListN.{length}
-use Rattle.lwe_tag.proofs.Writes.{refused, done}
+use Rattle.lwe_tag.proofs.Writes.{done}
 use Rattle.primus_lwe_packed.proofs.Laws.{PackedMessages, packable_messages}
 use Rattle.primus_lwe_packed.proofs.message_packed.encrypt_message_packed.Goals as goal
 

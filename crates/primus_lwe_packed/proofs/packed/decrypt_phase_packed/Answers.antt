@@ -1,11 +1,10 @@
-use mathlib.Core.Path.{◌≡◌, sym, ap₂, ◌∙◌}
-use Prim.Native.Nat.{ℕ, ◌+◌, ◌≤◌}
+use mathlib.Core.Path.{sym, ap₂, ◌∙◌}
+use Prim.Native.Nat.{ℕ}
 use native.Mathlib.Omega.{arith}
-use borrow.Author.Rules.{rules}
 use lib.ListN.{length}
 use Rattle.scheme.specs.Numbers.{tabulate}
 use Rattle.scheme.specs.Lwe.{words, packed_phase}
-use Rattle.scheme.proofs.Order.{refused, done}
+use Rattle.scheme.proofs.Order.{done}
 use Rattle.primus_reduce.specs.Ring.{size_of}
 use Rattle.primus_lwe_packed.proofs.Laws.{Phasable, phasable}
 use Rattle.primus_lwe_packed.proofs.packed.decrypt_phase_packed.Goals as goal

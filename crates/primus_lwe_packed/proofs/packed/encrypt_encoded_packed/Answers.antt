@@ -1,8 +1,7 @@
-use mathlib.Core.Path.{◌≡◌, sym, ap, ◌∙◌}
-use borrow.Author.Rules.{rules}
+use mathlib.Core.Path.{sym, ap, ◌∙◌}
 use lib.ListN.{length}
 use Rattle.scheme.specs.Lwe.{words, signed, packed}
-use Rattle.lwe_tag.proofs.Writes.{refused, done}
+use Rattle.lwe_tag.proofs.Writes.{done}
 use Rattle.primus_reduce.specs.Ring.{size_of}
 use Rattle.primus_lwe_packed.proofs.Laws.{Packed, packable}
 use Rattle.primus_lwe_packed.proofs.packed.encrypt_encoded_packed.Goals as goal

@@ -1,10 +1,7 @@
-use mathlib.Core.Path.{◌≡◌, sym, ap, ◌∙◌}
+use mathlib.Core.Path.{sym, ap, ◌∙◌}
 use Prim.Native.Nat.{◌+◌, ◌*◌}
-use borrow.Author.Rules.{rules}
 use lib.ListN.{length}
-use Rattle.scheme.specs.Lwe.{signed, secret_of, public_key}
-use Rattle.scheme.proofs.Order.{refused, done}
-use Rattle.primus_reduce.specs.Ring.{size_of}
+use Rattle.scheme.specs.Lwe.{signed}
 use Rattle.lwe_secret_key.specs.Key.{key_of}
 use Rattle.primus_lwe_public_key.proofs.Laws.{generable}
 use Rattle.primus_lwe_public_key.proofs.public_key.generate_under.Goals as goal

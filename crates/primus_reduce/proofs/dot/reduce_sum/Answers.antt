@@ -1,7 +1,7 @@
-use Rattle.std.proofs.Common.{pos, rules}
+use Rattle.std.proofs.Common.{pos}
 use Rattle.scheme.specs.Numbers.{residue}
 use Rattle.reduce_words.specs.Exact.{exact}
-use Rattle.primus_reduce.proofs.Laws.{modulo-is, modulo_none}
+use Rattle.primus_reduce.proofs.Laws.{modulo-is}
 use Rattle.primus_reduce.proofs.DotSigned.{exact-low}
 use Rattle.primus_reduce.proofs.dot.reduce_sum.Goals as goal
 

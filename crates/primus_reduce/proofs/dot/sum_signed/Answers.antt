@@ -1,5 +1,4 @@
-use Rattle.std.proofs.Common.{◌≡◌, ◌+◌, ◌-◌, ◌*◌, ◌≤◌, length, get_or, pos, sym, ap, ◌∙◌, arith, to_z-of_z, w32, SFits}
-use Rattle.scheme.specs.Numbers.{sum_ℕ}
+use Rattle.std.proofs.Common.{◌+◌, ◌*◌, get_or, pos, sym, ap, ◌∙◌, arith, to_z-of_z, w32, SFits}
 use Rattle.primus_reduce.specs.Ring.{size_of, modulo}
 use Rattle.reduce_words.specs.Exact.{exact}
 use Rattle.primus_reduce.specs.Dot.{product_signed}

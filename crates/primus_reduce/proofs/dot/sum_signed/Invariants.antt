@@ -1,9 +1,8 @@
-use Rattle.std.proofs.Common.{◌≡◌, ◌+◌, ◌-◌, ◌*◌, ◌≤◌, length, get_or, pos, sym, ap, ◌∙◌, arith, to_z-of_z, w32, SFits}
+use Rattle.std.proofs.Common.{◌≡◌, ◌-◌, ◌≤◌}
 use Rattle.scheme.specs.Numbers.{sum_ℕ}
-use Rattle.primus_reduce.specs.Ring.{size_of, modulo}
+use Rattle.primus_reduce.specs.Ring.{size_of}
 use Rattle.reduce_words.specs.Exact.{exact}
 use Rattle.primus_reduce.specs.Dot.{product_signed}
-use Rattle.reduce_words.proofs.Laws.{exact_none, sum_more}
 use Rattle.primus_reduce.proofs.dot.sum_signed.Given as goal
 
 abbrev pub invariant-loop-i : goal.invariant-loop-i

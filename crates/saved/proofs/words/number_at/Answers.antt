@@ -1,5 +1,4 @@
 use native.Mathlib.Omega.{arith}
-use borrow.Author.Rules.{rules}
 use Rattle.little_endian.proofs.Laws.{none64}
 use Rattle.saved.proofs.words.number_at.Goals as goal
 

@@ -1,5 +1,4 @@
 use native.Mathlib.Omega.{arith}
-use borrow.Author.Rules.{rules}
 use Rattle.little_endian.proofs.Laws.{none32}
 use Rattle.saved.proofs.words.word_at.Goals as goal
 

@@ -1,10 +1,7 @@
-use mathlib.Core.Path.{sym, ◌∙◌}
 use Prim.Native.Nat.{◌-◌}
-use native.Mathlib.Omega.{arith}
 use lib.ListN.{length}
-use Rattle.scheme.proofs.InPlace.{Filled, filled_start, filled_next, filled_end}
-use Rattle.scheme.proofs.Lists.{length-tabulate, get_d_tabulate}
-use Rattle.saved.specs.Layout.{file_word, file_words}
+use Rattle.scheme.proofs.InPlace.{Filled}
+use Rattle.saved.specs.Layout.{file_words}
 use Rattle.saved.proofs.words.words_to.Given as goal
 
 abbrev pub invariant-loop-i : goal.invariant-loop-i

@@ -1,4 +1,3 @@
-use borrow.Author.Rules.{rules}
 use Rattle.saved_head.specs.Head.{head_of}
 use Rattle.saved_head.proofs.head.head_of.Goals as goal
 

@@ -5,10 +5,8 @@ use native.Mathlib.Omega.{arith}
 use lib.Dec.{leb}
 use lib.ListN.{length}
 use Rattle.scheme.specs.Checks.{refusal}
-use Rattle.scheme.proofs.Order.{told}
-use Rattle.key_switch_key.specs.declared.key.EntryAnswer.TheVariants.{Refused}
 use Rattle.key_switch_key.specs.Answers.{entry_rows, entry_missing}
-use Rattle.key_switch_key.proofs.Passed.{entry_missing_lem, entry_within, entry_at}
+use Rattle.key_switch_key.proofs.Passed.{entry_within}
 use Rattle.key_switch_key.proofs.key.LweKeySwitchingKey.entry.Goals as goal
 
 pub overflow_add-width : goal.overflow_add-width

@@ -1,17 +1,5 @@
-use mathlib.Core.Path.{◌≡◌, ap, subst, ◌∙◌}
-use mathlib.Core.List.{List, [], ◌∷◌}
-use mathlib.Core.Logic.{⊎_elim}
-use Prim.Native.Nat.{ℕ, ◌+◌, ◌-◌}
+use mathlib.Core.Path.{subst}
 use native.Mathlib.Omega.{arith}
-use borrow.Author.Rules.{rules}
-use lib.ListN.{take, drop}
-use denote.Enum.Declared.{tag_of}
-use types.Run.{OneOf}
-use Rattle.key_switch_parameters.specs.declared.LweKeySwitchingParameters.{LweKeySwitchingParameters}
-use Rattle.key_switch_key.specs.declared.key.EntryAnswer.{EntryAnswer}
-use Rattle.key_switch_key.specs.declared.key.EntryAnswer.TheVariants as E
-use Rattle.key_switch_key.specs.Answers.{entry_part}
-use Rattle.key_switch_key.specs.contracts.key.EntryAnswer.{the_type}
 use Rattle.key_switch_key.proofs.Passed.{Found, Told, entry_told}
 use Rattle.key_switch_key.proofs.key.LweKeySwitchingKey.entry_words.Goals as goal
 

@@ -1,5 +1,4 @@
 use mathlib.Core.Path.{◌≡◌, refl, sym, ap, ◌∙◌}
-use lib.ListN.{length}
 use Prim.Native.Nat.{◌+◌}
 use Rattle.scheme.specs.Lwe.{secret_of, phase_of}
 use Rattle.scheme.specs.Checks.{refusal}

@@ -1,9 +1,8 @@
-use mathlib.Core.Path.{◌≡◌, sym, ap, ◌∙◌}
-use borrow.Author.Rules.{rules}
+use mathlib.Core.Path.{sym, ap, ◌∙◌}
 use lib.IntN.{pos}
 use lib.ListN.{length}
 use Rattle.scheme.specs.Lwe.{signed, public_encrypted}
-use Rattle.lwe_tag.proofs.Writes.{refused, done}
+use Rattle.lwe_tag.proofs.Writes.{done}
 use Rattle.primus_reduce.specs.Ring.{size_of}
 use Rattle.primus_lwe_public_key.proofs.Laws.{Publishable, publishable}
 use Rattle.primus_lwe_public_key.proofs.public_key.LwePublicKey.encrypt_encoded_to.Goals as goal

@@ -1,10 +1,9 @@
-use mathlib.Core.Path.{◌≡◌, sym, ap₂, ◌∙◌}
+use mathlib.Core.Path.{sym, ap₂, ◌∙◌}
 use Prim.Native.Nat.{ℕ}
-use borrow.Author.Rules.{rules}
 use lib.IntN.{pos}
 use lib.ListN.{length}
 use Rattle.scheme.specs.Lwe.{signed, public_encrypted}
-use Rattle.lwe_tag.proofs.Writes.{refused, done}
+use Rattle.lwe_tag.proofs.Writes.{done}
 use Rattle.primus_reduce.specs.Ring.{size_of}
 use Rattle.primus_lwe_public_key.proofs.Laws.{PublishableMessage, publishable_message}
 use Rattle.primus_lwe_public_key.proofs.public_key.LwePublicKey.encrypt_message_to.Goals as goal

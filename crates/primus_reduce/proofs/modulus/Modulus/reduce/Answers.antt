@@ -1,6 +1,6 @@
-use Rattle.std.proofs.Common.{pos, ◌+ℤ◌, ◌-ℤ◌, ◌*ℤ◌, rules}
+use Rattle.std.proofs.Common.{pos, rules}
 use Rattle.scheme.specs.Numbers.{residue}
-use Rattle.primus_reduce.proofs.Laws.{modulo-is, modulo_none}
+use Rattle.primus_reduce.proofs.Laws.{modulo-is}
 use Rattle.primus_reduce.proofs.modulus.Modulus.reduce.Goals as goal
 
 pub returns-in-Native : goal.returns-in-Native

@@ -1,6 +1,6 @@
-use Rattle.std.proofs.Common.{◌^◌, rules}
+use Rattle.std.proofs.Common.{◌^◌}
 use Rattle.primus_reduce.specs.Dot.{dot}
-use Rattle.primus_reduce.proofs.Laws.{modulo-is, modulo_none, dot-mod}
+use Rattle.primus_reduce.proofs.Laws.{modulo-is, dot-mod}
 use Rattle.primus_reduce.proofs.modulus.Modulus.reduce_dot_product.Goals as goal
 
 pub returns-in-Native : goal.returns-in-Native

@@ -1,6 +1,6 @@
-use Rattle.std.proofs.Common.{pos, ◌+ℤ◌, ◌-ℤ◌, ◌*ℤ◌, arith, rules}
+use Rattle.std.proofs.Common.{pos, ◌*ℤ◌}
 use Rattle.scheme.specs.Numbers.{residue}
-use Rattle.primus_reduce.proofs.Laws.{modulo-is, modulo_none, product-most}
+use Rattle.primus_reduce.proofs.Laws.{modulo-is}
 use Rattle.primus_reduce.proofs.modulus.Modulus.reduce_mul.Goals as goal
 
 pub returns-in-Native : goal.returns-in-Native

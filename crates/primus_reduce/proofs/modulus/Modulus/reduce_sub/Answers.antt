@@ -1,5 +1,5 @@
-use Rattle.std.proofs.Common.{◌^◌, pos, ◌+ℤ◌, ◌-ℤ◌, ◌*ℤ◌, rules}
-use Rattle.primus_reduce.proofs.Laws.{modulo-is, modulo_none, sub_wraps}
+use Rattle.std.proofs.Common.{◌^◌, rules}
+use Rattle.primus_reduce.proofs.Laws.{sub_wraps}
 use Rattle.primus_reduce.proofs.modulus.Modulus.reduce_sub.Goals as goal
 
 pub returns-in-Native : goal.returns-in-Native

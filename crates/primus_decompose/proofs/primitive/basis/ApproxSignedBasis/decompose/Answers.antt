@@ -1,4 +1,3 @@
-use borrow.Author.Rules.{rules}
 use Rattle.primus_decompose.proofs.Answers.{one_word}
 use Rattle.primus_decompose.proofs.primitive.basis.ApproxSignedBasis.decompose.Goals as goal
 

@@ -1,9 +1,4 @@
-use mathlib.Core.Path.{ap, sym, ◌∙◌}
-use borrow.Author.Rules.{rules}
 use lib.ListN.{length}
-use Rattle.scheme.specs.Digits.{runs_of}
-use Rattle.scheme.proofs.Order.{refused, done}
-use Rattle.gadget_constants.specs.Prepared.{basis_in}
 use Rattle.primus_decompose.proofs.Answers.{Decomposable, decomposable}
 use Rattle.primus_decompose.proofs.primitive.basis.ApproxSignedBasis.decompose_slice_to.Goals as goal
 

@@ -1,8 +1,7 @@
 use mathlib.Core.Path.{◌∙◌}
-use Rattle.scheme.proofs.Order.{told}
 use Rattle.gadget_digits.specs.Step.{decomposer_of}
 use Rattle.gadget_constants.proofs.Constants.{decomposer_ready}
-use Rattle.primus_decompose.specs.declared.error.DecomposerAnswer.TheVariants.{Ready, Refused}
+use Rattle.primus_decompose.specs.declared.error.DecomposerAnswer.TheVariants.{Ready}
 use Rattle.primus_decompose.proofs.Answers.{Passed, passes}
 use Rattle.primus_decompose.proofs.primitive.basis.ApproxSignedBasis.decomposer.Goals as goal
 

@@ -1,8 +1,7 @@
 use mathlib.Core.Path.{◌∙◌}
-use Rattle.scheme.proofs.Order.{told}
 use Rattle.gadget_constants.specs.Word.{init_of}
 use Rattle.gadget_constants.proofs.Constants.{init_ready}
-use Rattle.primus_decompose.specs.declared.error.ValueCarryAnswer.TheVariants.{Ready, Refused}
+use Rattle.primus_decompose.specs.declared.error.ValueCarryAnswer.TheVariants.{Ready}
 use Rattle.primus_decompose.proofs.Answers.{Passed, passes}
 use Rattle.primus_decompose.proofs.primitive.basis.ApproxSignedBasis.init_value_carry.Goals as goal
 

@@ -1,6 +1,3 @@
-use Rattle.scheme.proofs.Order.{told}
-use Rattle.gadget_constants.specs.Word.{reading_of}
-use Rattle.primus_decompose.specs.declared.error.ReadingAnswer.TheVariants.{Read, Refused}
 use Rattle.primus_decompose.proofs.Answers.{Passed, passes}
 use Rattle.primus_decompose.proofs.primitive.basis.ApproxSignedBasis.reading.Goals as goal
 
