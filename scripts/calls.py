@@ -14,9 +14,9 @@ from pathlib import Path
 
 ROOT = Path(__file__).resolve().parent.parent
 FUNCTION = re.compile(r'^( *)pub (?:extern "C" )?fn (\w+)', re.M)
-NAME = re.compile(r"«?[A-Za-z_][\w′]*»?")
+NAME = re.compile(r"«?[A-Za-z_][\w']*»?")
 # How a tag is defined, and how CALLS.md says it; the first that is found.
-TAGS = [('tagFrom (Fresh', '; the tally is E'), ('tagOf (addTally', '; the tallies are added'), ('tagFrom ', '; no tally')]
+TAGS = [('tag_from (Fresh', '; the tally is E'), ('tag_of (add_tally', '; the tallies are added'), ('tag_from ', '; no tally')]
 
 
 def comments_out(text, mark):
@@ -26,7 +26,7 @@ def comments_out(text, mark):
 def imported(text):
     """Which crate each name of the text's imports comes from."""
     names = {}
-    for m in re.finditer(r'^(?:ghost )?use Rattle·(\w+?)(?:·specs)?\.specs\.[\w.]+\.\{([^}]*)\}', text, re.M):
+    for m in re.finditer(r'^(?:ghost )?use Rattle\.(\w+)\.specs\.[\w.]+\.\{([^}]*)\}', text, re.M):
         names.update((name.split(' as ')[0].strip(), m.group(1)) for name in m.group(2).split(','))
     return names
 
@@ -88,7 +88,7 @@ def numbers_of(crate, name, specs, seen):
     text = found[name]
     numbers = row_numbers(text)
     for other in set(NAME.findall(text)):
-        if other != name and re.search(r'(Rows|Refusal|Answer|^rows|^tried)$', other):
+        if other != name and re.search(r'(_rows|_refusal|_answer|^rows|^tried)$', other):
             numbers |= numbers_of(crate, other, specs, seen)
     return numbers
 

@@ -6,7 +6,7 @@ use saved_head::Head;
 use std::rt::Files;
 
 // The programs take files of at most 65,536 bytes. A room has one byte more: no whole file has that length, so a
-// longer one is refused too (odd-length of saved_head).
+// longer one is refused too (odd_length of saved_head).
 pub const ROOM: usize = 65537;
 
 // What stands under a name: nothing that can be opened, bytes that are no whole file, or a whole one.
