@@ -3,7 +3,8 @@
 # makes every call under gdb, stopped at each division, which must not be by q or 2q there. No part of the gate: it wants nm, objdump, gdb and a C
 # compiler (CC, default cc) on x86-64, and takes half a minute after the library is built.
 #   scripts/divisions.sh            the library; ARCHIVE names one built already, in place of scripts/staticlib.sh
-#   scripts/divisions.sh planted    two parts of it compiled again, each with a division planted where the low bits or a shift stood: both must be noticed
+#   scripts/divisions.sh planted    compiled again, twice, with a division planted where the low bits or a shift stood: both must be noticed. It wants the
+#                                   library built here by scripts/staticlib.sh
 set -eu
 # shellcheck source=scripts/archive.sh
 . "$(dirname "$0")/archive.sh"
@@ -17,25 +18,22 @@ look() {
     LIBRARY=$room/library gdb -batch -nx -iex 'set debuginfod enabled off' -x scripts/divisions.py "$room/divisions"
 }
 
-# plant PART FUNCTION SED-COMMAND: the archive with one part compiled from LLVM's text of it, edited in one function. Nothing of the kit is copied: a
+# plant FUNCTION SED-COMMAND: the library compiled from LLVM's text of it, edited in one function. Nothing of the kit is copied: its toolchain is a
 # folder of links, whose clang is a script, for the length of this run.
 plant() {
-    rt=$(readlink -f "$(command -v rt)")
-    kit=${RATTLE_HOME:-$(dirname "$(dirname "$rt")")}
-    own=on/$(uname -m)
-    home=$room/$1
-    mkdir -p "$home/$own/toolchain/bin"
-    for f in "$kit"/*; do [ "$(basename "$f")" = on ] || ln -s "$f" "$home/"; done
-    for f in "$kit/$own"/*; do [ "$(basename "$f")" = toolchain ] || ln -s "$f" "$home/$own/"; done
-    ln -s "$kit/$own/toolchain/lib" "$home/$own/toolchain/lib"
-    for f in "$kit/$own/toolchain/bin"/*; do [ "$(basename "$f")" = clang ] || ln -s "$f" "$home/$own/toolchain/bin/"; done
-    cat >"$home/$own/toolchain/bin/clang" <<END
+    kit=$(dirname "$(dirname "$(readlink -f "$(command -v rt)")")")
+    chain=$room/toolchain
+    rm -rf "$chain"
+    mkdir -p "$chain/bin"
+    ln -s "$kit/toolchain/lib" "$chain/lib"
+    for f in "$kit/toolchain/bin"/*; do [ "$(basename "$f")" = clang ] || ln -s "$f" "$chain/bin/"; done
+    cat >"$chain/bin/clang" <<END
 #!/bin/sh
 set -e
-real=$kit/$own/toolchain/bin/clang
+real=$kit/toolchain/bin/clang
 "\$real" --target=x86_64-unknown-linux-gnu -march=x86-64 --no-default-config -S -emit-llvm -Xclang -disable-llvm-passes -x ir module.bc -o module.ll
 cp module.ll module.was
-sed -i '/^define .*"$2"/,/^}/ { $3 }' module.ll
+sed -i '/^define .*"$1"/,/^}/ { $2 }' module.ll
 ! cmp -s module.ll module.was || { echo "divisions: the text to plant in is gone" >&2; exit 1; }
 for a do
     shift
@@ -44,24 +42,27 @@ for a do
 done
 exec "\$real" "\$@"
 END
-    chmod +x "$home/$own/toolchain/bin/clang"
-    made=target/staticlib/libsaigagalena_$1.a
-    RATTLE_HOME=$home rt staticlib "saigagalena_$1" >"$room/log" 2>&1 || { cat "$room/log"; exit 1; }
-    mv "$made" "$room/part.a" # no planted archive stays in target/
-    cp "$archive" "$room/planted.a"
-    (cd "$room" && ar x part.a && ar r planted.a "saigagalena_$1.o")
+    chmod +x "$chain/bin/clang"
+    set -- "$1" --extern "std=$kit/rlibs/std.rlib" -L "dependency=$kit/rlibs"
+    for f in $(sed -n 's/^saigagalena staticlib: //p' crates.txt); do set -- "$@" --extern "$f=$PWD/crates/$f/out/rlib/$f.rlib"; done
+    for f in "$PWD"/crates/*/out/rlib; do set -- "$@" -L "dependency=$f"; done
+    function=$1
+    shift
+    (cd crates/saigagalena && "$kit/bin/rattle" build --crate-name saigagalena src/lib.rt "$@" --antt-project "$kit/rattle/logic/antt-project.json" \
+        --logic-built "$kit/logic_built" --crate-type staticlib --toolchain "$chain" --backend llvm --incremental out/incremental \
+        -o "$room/planted.a") >"$room/log" 2>&1 || { cat "$room/log"; exit 1; }
     if look "$room/planted.a" >"$room/out" 2>&1; then
-        echo "divisions: a division planted in $2 was not noticed"
+        echo "divisions: a division planted in $function was not noticed"
         exit 1
     fi
     grep '^divisions: FAILED, by q' "$room/out" || { cat "$room/out"; exit 1; }
-    echo "divisions: noticed, a division planted in $2"
+    echo "divisions: noticed, a division planted in $function"
 }
 
 if [ "${1:-}" = planted ]; then
     # x & mask becomes x % (mask + 1), and x >> bits becomes x / y
-    plant switch 'reduce_words::power::low_bits' 's/^  \(%r[0-9]*\) = and i64 \(%[ar][0-9]*\), \(%[ar][0-9]*\)$/  %planted = add i64 \3, 1\n  \1 = urem i64 \2, %planted/'
-    plant codec 'reduce_words::power::quotient' 's/ = lshr i64 %a0, %[ar][0-9]*$/ = udiv i64 %a0, %a1/'
+    plant 'reduce_words::power::low_bits' 's/^  \(%r[0-9]*\) = and i64 \(%[ar][0-9]*\), \(%[ar][0-9]*\)$/  %planted = add i64 \3, 1\n  \1 = urem i64 \2, %planted/'
+    plant 'reduce_words::power::quotient' 's/ = lshr i64 %a0, %[ar][0-9]*$/ = udiv i64 %a0, %a1/'
 else
     look "$archive"
 fi
