@@ -1,27 +1,19 @@
--- What lies past the end, and equal bytes.
+-- Bytes with zeros after them, and numbers of four and eight bytes.
 -- Assumes nothing.
-use mathlib.Core.Path.{◌≡◌, refl, sym, ap₂}
-use mathlib.Core.List.{List}
-use Prim.Native.Nat.{ℕ, ◌+◌, ◌*◌, ◌^◌, ◌≤◌}
-use native.Mathlib.Omega.{arith}
-use lib.ListN.{length, get_or, get_or-eq_default}
+use Prim.Native.Nat.{min}
+use Rattle.std.proofs.Math.ListN.{replicate}
+use Rattle.std.proofs.Common.{◌≡◌, ◌<◌, ℕ, ◌+◌, List, ◌++◌, get_or, length, take, drop, arith}
+use Rattle.std.proofs.lemmas.Grind.{common_steps}
+use Rattle.std.specs.Int.{w32, w64, from_le_bytes}
 use Rattle.little_endian.specs.Bytes.{word32, word64}
 
-pub four : (a b c d w x y z : ℕ) → a ≡ w → b ≡ x → c ≡ y → d ≡ z → a + 256 * b + 65536 * c + 16777216 * d ≡ w + 256 * x + 65536 * y + 16777216 * z
-four a b c d w x y z e f g h = rw (e, f, g, h) refl
+pub padded : (rest : List ℕ) (N n k : ℕ) → n ≡ min (length rest) N → k < N → get_or (take n rest ++ drop n (replicate N 0)) k 0 ≡ get_or rest k 0
+padded rest N n k e h = grind (arith, common_steps)
 
-pub none32 : (s : List ℕ) (i : ℕ) → length s ≤ i → 0 ≡ word32 s i
+pub is_word32 : (bytes s : List ℕ) (i : ℕ) → ((k : ℕ) → k < 4 → get_or bytes k 0 ≡ get_or s (i + k) 0) → from_le_bytes w32 bytes ≡ word32 s i
 unfolding word32
-none32 s i h =
-    four 0 0 0 0 _ _ _ _ (zero i h) (zero (i + 1) (omega arith)) (zero (i + 2) (omega arith)) (zero (i + 3) (omega arith))
-  where
-    zero : (j : ℕ) → length s ≤ j → 0 ≡ get_or s j 0
-    zero j k = sym (get_or-eq_default s 0 {n = j} k)
+is_word32 bytes s i h = grind (arith, common_steps, h 0, h 1, h 2, h 3)
 
-pub none64 : (s : List ℕ) (i : ℕ) → length s ≤ i → 0 ≡ word64 s i
-unfolding word64
-none64 s i h = ap₂ (λ x y. x + 2 ^ 32 * y) (none32 s i h) (none32 s (i + 4) (omega arith))
-
-pub halves : (s : List ℕ) (i x y : ℕ) → x ≡ word32 s i → y ≡ word32 s (i + 4) → x + 4294967296 * y ≡ word64 s i
-unfolding word64
-halves s i x y e f = ap₂ (λ x y. x + 2 ^ 32 * y) e f
+pub is_word64 : (bytes s : List ℕ) (i : ℕ) → ((k : ℕ) → k < 8 → get_or bytes k 0 ≡ get_or s (i + k) 0) → from_le_bytes w64 bytes ≡ word64 s i
+unfolding word32 word64
+is_word64 bytes s i h = grind (arith, common_steps, h 0, h 1, h 2, h 3, h 4, h 5, h 6, h 7)

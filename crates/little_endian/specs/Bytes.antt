@@ -1,4 +1,4 @@
--- "operands are little-endian"
+-- A number of four or eight bytes: the lowest byte comes first.
 use Rattle.std.specs.Prelude.{List, ℕ, ◌+◌, ◌*◌, ◌^◌, get_or}
 
 unfoldable pub word32 : List ℕ → ℕ → ℕ

@@ -1,42 +1,54 @@
 // Little-endian numbers in a run of bytes, as operands and stored files have them. Past the end every byte is 0.
 #![tactic(auto)]
 
-ghost use Rattle.std.specs.Prelude.{◌≡◌, ◌<◌, get_or};
+ghost use Rattle.std.specs.Prelude.{◌≡◌, ◌<◌, ℕ, ◌+◌, drop, get_or};
 ghost use Rattle.little_endian.specs.Bytes.{word32, word64};
 
-fn wide(b: u8) -> u32
-    ensures { (result ≡ b) × (result < 256) }
+// Byte i.
+fn byte(s: &[u8], i: usize) -> u8
+    ensures { result ≡ get_or s.now i 0 }
 {
-    b as u32
+    s.get(i).copied().unwrap_or(0)
 }
 
-// Byte i.
+// The same as a number.
 pub fn u8_at(s: &[u8], i: usize) -> u32
     ensures { (result ≡ get_or s.now i 0) × (result < 256) }
 {
-    if i < s.len() {
-        return wide(s[i]);
-    }
-    0
+    u32::from(byte(s, i))
+}
+
+// What stands from i on.
+fn rest_of(s: &[u8], i: usize) -> &[u8]
+    ensures { result.now ≡ drop i s.now }
+{
+    s.get(i..).unwrap_or(&[])
+}
+
+// N bytes from i on.
+#[tactic(auto, using(crate::proofs::Laws::padded))]
+fn bytes_at<const N: usize>(s: &[u8], i: usize) -> [u8; N]
+    ensures { (k : ℕ) → k < N → get_or result k 0 ≡ get_or s.now (i + k) 0 }
+{
+    let rest = rest_of(s, i);
+    let n = rest.len().min(N);
+    let mut bytes = [0; N];
+    bytes[..n].copy_from_slice(&rest[..n]);
+    bytes
 }
 
 // Four bytes from i on.
+#[tactic(auto, using(crate::proofs::Laws::is_word32))]
 pub fn u32_at(s: &[u8], i: usize) -> u32
     ensures { result ≡ word32 s.now i }
 {
-    if s.len() <= i {
-        return 0;
-    }
-    u8_at(s, i) + 256 * u8_at(s, i + 1) + 65536 * u8_at(s, i + 2) + 16777216 * u8_at(s, i + 3)
+    u32::from_le_bytes(bytes_at(s, i))
 }
 
 // Eight bytes from i on.
+#[tactic(auto, using(crate::proofs::Laws::is_word64))]
 pub fn u64_at(s: &[u8], i: usize) -> u64
     ensures { result ≡ word64 s.now i }
 {
-    if s.len() <= i {
-        return 0;
-    }
-    let high = u32_at(s, i + 4) as u64;
-    u32_at(s, i) as u64 + 0x1_0000_0000 * high
+    u64::from_le_bytes(bytes_at(s, i))
 }
