@@ -2,9 +2,13 @@
 // them applies the values, so that no word of a lent buffer is read before every length is known to fit.
 #![tactic(auto)]
 
-ghost use Rattle.std.specs.Prelude.{◌≡◌};
-ghost use Rattle.scheme.specs.Numbers.{pick};
+ghost use Rattle.std.specs.Prelude.{◌≡◌, true, false, MatchResult};
+ghost use Rattle.check_order.specs.Answer.{code_of};
 ghost use Rattle.check_order.specs.Judged.{FirstSize, FirstValue};
+
+mod refusal;
+
+pub use refusal::Refusal;
 
 // Numbers and lengths.
 #[derive(Clone, Copy)]
@@ -32,14 +36,14 @@ pub struct Values {
     pub tally: bool,
 }
 
-// `later`, or `number` where its condition holds.
-fn pick(fails: bool, number: u32, later: u32) -> u32
-    ensures { result ≡ pick fails number later }
+// Refuses by this reason where its condition holds.
+fn refuse(fails: bool, by: Refusal) -> Result<(), Refusal>
+    ensures { MatchResult result (λ _. fails ≡ false) (λ reason. (reason ≡ by) × (fails ≡ true)) }
 {
     if fails {
-        return number;
+        return Err(by);
     }
-    later
+    Ok(())
 }
 
 impl Sizes {
@@ -58,22 +62,23 @@ impl Sizes {
         error_limit: false,
     };
 
-    // The first number that applies, or 0. From the last to the first: what comes earlier in the order wins.
-    pub fn first(self) -> u32
-        ensures { FirstSize self result }
+    // Refuses by the first reason that applies.
+    #[tactic(auto, unfolding(scheme::specs::Checks::first_in, crate::specs::Answer::number_of))]
+    pub fn judge(self) -> Result<(), Refusal>
+        ensures { FirstSize self (code_of result) }
     {
-        let r = pick(self.error_limit, 13, 0);
-        let r = pick(self.lent, 12, r);
-        let r = pick(self.output, 11, r);
-        let r = pick(self.input, 10, r);
-        let r = pick(self.key, 9, r);
-        let r = pick(self.small, 8, r);
-        let r = pick(self.plaintext, 7, r);
-        let r = pick(self.dimension, 6, r);
-        let r = pick(self.levels, 5, r);
-        let r = pick(self.base, 3, r);
-        let r = pick(self.modulus, 2, r);
-        pick(self.base_log, 1, r)
+        refuse(self.base_log, Refusal::BaseLog)?;
+        refuse(self.modulus, Refusal::Modulus)?;
+        refuse(self.base, Refusal::Base)?;
+        refuse(self.levels, Refusal::Levels)?;
+        refuse(self.dimension, Refusal::Dimension)?;
+        refuse(self.plaintext, Refusal::PlaintextModulus)?;
+        refuse(self.small, Refusal::SmallModulus)?;
+        refuse(self.key, Refusal::KeyLength)?;
+        refuse(self.input, Refusal::InputLength)?;
+        refuse(self.output, Refusal::OutputLength)?;
+        refuse(self.lent, Refusal::LentLength)?;
+        refuse(self.error_limit, Refusal::ErrorLimit)
     }
 }
 
@@ -85,12 +90,14 @@ impl Values {
         tally: false,
     };
 
-    pub fn first(self) -> u32
-        ensures { FirstValue self result }
+    // Refuses by the first reason that applies.
+    #[tactic(auto, unfolding(scheme::specs::Checks::first_in, crate::specs::Answer::number_of))]
+    pub fn judge(self) -> Result<(), Refusal>
+        ensures { FirstValue self (code_of result) }
     {
-        let r = pick(self.tally, 17, 0);
-        let r = pick(self.message, 16, r);
-        let r = pick(self.error, 15, r);
-        pick(self.word, 14, r)
+        refuse(self.word, Refusal::Word)?;
+        refuse(self.error, Refusal::Error)?;
+        refuse(self.message, Refusal::Message)?;
+        refuse(self.tally, Refusal::Tally)
     }
 }

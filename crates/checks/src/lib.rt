@@ -12,13 +12,6 @@ pub use check_lengths::{
 };
 use primus_reduce::{Modulus, magnitude};
 
-// A word, or the first number that applies.
-#[derive(Clone, Copy)]
-pub enum WordAnswer {
-    Word(u32),
-    Refused(u32),
-}
-
 // 2: an explicit modulus is below 4.
 pub fn modulus_refused(q: Modulus) -> bool
     ensures { result ≡ modulus_fails (meant q) }
@@ -62,16 +55,13 @@ pub fn word_refused(q: Modulus, x: u32) -> bool
 }
 
 // No early exit: the loop without one runs four words at a time.
+#[tactic(auto, using(crate::proofs::Laws::words_any))]
 fn any_refused(s: &[u32], q: u32) -> bool
     ensures { result ≡ words_fail q s.now }
 {
     let mut any = false;
-    let mut i = 0;
-    while i < s.len() {
-        if q <= s[i] {
-            any = true;
-        }
-        i += 1;
+    for x in s {
+        any |= q <= *x;
     }
     any
 }
@@ -98,13 +88,8 @@ fn any_outside(s: &[i32], limit: u64) -> bool
     ensures { result ≡ magnitudes_fail limit s.now }
 {
     let mut any = false;
-    let mut i = 0;
-    while i < s.len() {
-        let c = s[i];
-        if limit <= magnitude(c) as u64 {
-            any = true;
-        }
-        i += 1;
+    for c in s {
+        any |= limit <= magnitude(*c) as u64;
     }
     any
 }

@@ -1,13 +1,6 @@
-use mathlib.Core.Path.{◌≡◌}
-use Prim.Native.Nat.{◌≤◌, ◌-◌}
-use lib.Dec.{ltb}
-use lib.IntN.{nat_abs}
-use lib.ListN.{length}
-use Rattle.checks.proofs.Laws.{any_fails}
+use Rattle.std.proofs.Common.{◌≡◌, nat_le, take, unsigned_abs}
+use Rattle.std.specs.List.{list_any}
 use Rattle.checks.proofs.any_outside.Given as goal
 
-abbrev pub invariant-loop-i : goal.invariant-loop-i
-invariant-loop-i l = (l.i ≤ length l.s) × (l.any ≡ any_fails (λ c. ltb (nat_abs c) l.limit) l.s l.i)
-
-abbrev pub decreases-loop-i : goal.decreases-loop-i
-decreases-loop-i l = length l.s - l.i
+abbrev pub invariant-loop-c : goal.invariant-loop-c
+invariant-loop-c l = l.any ≡ list_any (λ c. nat_le l.limit (unsigned_abs c)) (take l.c-index l.s)

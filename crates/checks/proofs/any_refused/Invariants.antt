@@ -1,12 +1,6 @@
-use mathlib.Core.Path.{◌≡◌}
-use Prim.Native.Nat.{◌≤◌, ◌-◌}
-use lib.Dec.{ltb}
-use lib.ListN.{length}
-use Rattle.checks.proofs.Laws.{any_fails}
+use Rattle.std.proofs.Common.{◌≡◌, nat_le, take}
+use Rattle.std.specs.List.{list_any}
 use Rattle.checks.proofs.any_refused.Given as goal
 
-abbrev pub invariant-loop-i : goal.invariant-loop-i
-invariant-loop-i l = (l.i ≤ length l.s) × (l.any ≡ any_fails (λ x. ltb x l.q) l.s l.i)
-
-abbrev pub decreases-loop-i : goal.decreases-loop-i
-decreases-loop-i l = length l.s - l.i
+abbrev pub invariant-loop-x : goal.invariant-loop-x
+invariant-loop-x l = l.any ≡ list_any (nat_le l.q) (take l.x-index l.s)
