@@ -1,7 +1,7 @@
 // What the programs share: a file read whole, a modulus of a record, lines written, words compared.
 #![tactic(auto)]
 
-ghost use Rattle.std.specs.Prelude.{◌≤◌, length};
+ghost use Rattle.std.specs.Prelude.{◌≤◌, IfSome, length};
 
 use primus_reduce::Modulus;
 use std::fs;
@@ -42,10 +42,7 @@ pub fn open<R: Files + Eprint>(rt: &R, path: &[u8]) -> Option<R::File> {
 pub fn read_some(input: &mut impl Read, bytes: &mut [u8]) -> usize
     ensures { result ≤ length bytes.new }
 {
-    match input.read(bytes) {
-        Ok(n) => n,
-        Err(_) => 0,
-    }
+    input.read(bytes).unwrap_or(0)
 }
 
 // Reads until there is no room, the input ends or a read fails: how many bytes stand at the start.
@@ -63,35 +60,17 @@ pub fn read_full(input: &mut impl Read, bytes: &mut [u8]) -> usize
     done
 }
 
-// What was read of a file: whether it could be opened, and how many bytes.
-#[derive(Clone, Copy)]
-pub struct FileRead {
-    pub opened: bool,
-    pub len: usize,
-}
-
-// The first bytes of a file, as many as there is room for.
-pub fn read_file(rt: &(impl Files + Eprint), path: &[u8], bytes: &mut [u8]) -> FileRead
-    ensures { result.len ≤ length bytes.new }
+// The first bytes of a file, as many as there is room for; none where it cannot be opened.
+pub fn read_file<'a>(
+    rt: &(impl Files + Eprint),
+    path: &[u8],
+    room: &'a mut [u8],
+) -> Option<&'a [u8]>
+    ensures { IfSome result (λ bytes. length bytes.now ≤ length room.old) }
 {
-    match open(rt, path) {
-        Some(mut file) => FileRead {
-            opened: true,
-            len: read_full(&mut file, bytes),
-        },
-        None => FileRead {
-            opened: false,
-            len: 0,
-        },
-    }
-}
-
-// The number of bytes alone; 0 where it cannot be opened.
-pub fn read(rt: &(impl Files + Eprint), path: &[u8], bytes: &mut [u8]) -> usize
-    ensures { result ≤ length bytes.new }
-{
-    let r = read_file(rt, path, bytes);
-    r.len
+    let mut file = open(rt, path)?;
+    let len = read_full(&mut file, room);
+    Some(&room[..len])
 }
 
 // A modulus of a record: a byte that is 0 for the native one, then its number.
@@ -99,27 +78,20 @@ pub fn modulus_at(record: &[u8], at: usize) -> Modulus {
     if little_endian::u8_at(record, at) == 0 {
         return Modulus::Native;
     }
-    Modulus::Explicit(little_endian::u32_at(record, std::num::wrapping_add_usize(at, 1)))
+    Modulus::Explicit(little_endian::u32_at(record, at.wrapping_add(1)))
 }
 
 // The smaller of two lengths: a part of so many words is there, and the call that takes it judges whether they are enough.
 pub fn at_most(len: usize, most: usize) -> usize
     ensures { result ≤ most }
 {
-    if len < most { len } else { most }
+    len.min(most)
 }
 
 // The first `count` words are the same; there are that many in both.
 pub fn same(x: &[u32], y: &[u32], count: usize) -> bool {
-    if x.len() < count || y.len() < count {
-        return false;
+    match (x.get(..count), y.get(..count)) {
+        (Some(x), Some(y)) => x == y,
+        _ => false,
     }
-    let mut i = 0;
-    while i < count {
-        if x[i] != y[i] {
-            return false;
-        }
-        i += 1;
-    }
-    true
 }
