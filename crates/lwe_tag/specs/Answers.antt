@@ -1,37 +1,33 @@
 -- What a tag stands for, the mark, and what a call that writes a ciphertext promises.
-use Rattle.std.specs.Prelude.{◌≡◌, List, [], ◌∷◌, ◌++◌, ℕ, ◌-◌, ◌^◌, eqb}
+use Rattle.std.specs.Prelude.{◌≡◌, List, [], ◌∷◌, ◌++◌, ℕ, Bool, ◌-◌, ◌^◌, ◌==◌, Option, Some, None, Result}
 use Rattle.scheme.specs.Numbers.{pick}
 use Rattle.scheme.specs.Tally as S
 use Rattle.scheme.specs.Checks.{Check, row, refusal, codec_rows}
 use Rattle.primus_reduce.specs.Ring.{meant, size_of}
 use Rattle.primus_reduce.specs.declared.modulus.Modulus.{Modulus}
-use Rattle.lwe_tag.specs.declared.Tally.{Tally}
-use Rattle.lwe_tag.specs.declared.Tally.TheVariants.{Absent, Present}
+use Rattle.check_order.specs.declared.refusal.Refusal.{Refusal}
+use Rattle.check_order.specs.Answer.{answer}
 use Rattle.lwe_tag.specs.declared.LweTag.{LweTag}
-use Rattle.lwe_tag.specs.declared.LweAnswer.{LweAnswer}
-use Rattle.lwe_tag.specs.declared.LweAnswer.TheVariants as A
-use Rattle.lwe_tag.specs.declared.MarkAnswer.{MarkAnswer}
-use Rattle.lwe_tag.specs.declared.MarkAnswer.TheVariants as M
 
--- the tally of document 01, and the value that holds one
-abbrev pub meant_tally : Tally → S.Tally
-meant_tally Absent = S.Absent
-meant_tally (Present a) = S.Present a
+-- the tally that a value holds, and the value that holds one
+abbrev pub meant_tally : Option ℕ → S.Tally
+meant_tally None = S.Absent
+meant_tally (Some a) = S.Present a
 
-abbrev pub held_tally : S.Tally → Tally
-held_tally S.Absent = Absent
-held_tally (S.Present a) = Present a
+abbrev pub held_tally : S.Tally → Option ℕ
+held_tally S.Absent = None
+held_tally (S.Present a) = Some a
 
 -- a tally as one number: 2^64 − 1 where there is none; every other number above 2^32 is refused by 17
 abbrev pub no_tally : ℕ
 no_tally = 2 ^ 64 - 1
 
-abbrev pub tally_for : ℕ → Tally
-tally_for a = pick (eqb a no_tally) Absent (Present a)
+abbrev pub tally_for : ℕ → Option ℕ
+tally_for a = pick (a == no_tally) None (Some a)
 
-abbrev pub number_of_tally : Tally → ℕ
-number_of_tally Absent = no_tally
-number_of_tally (Present a) = a
+abbrev pub number_of_tally : Option ℕ → ℕ
+number_of_tally None = no_tally
+number_of_tally (Some a) = a
 
 -- the tally of a tag, and the tag of a tally
 abbrev pub tally_of : LweTag → S.Tally
@@ -66,15 +62,12 @@ tag_rows x y =
 abbrev pub mark_rows : LweTag → Modulus → ℕ → List Check
 mark_rows x m t = codec_rows t (meant m) ++ row (S.tally_fails cap (tally_of x)) 17 ∷ []
 
-abbrev pub mark_answer : LweTag → Modulus → ℕ → MarkAnswer
-mark_answer x m t =
-    pick (eqb (refusal (mark_rows x m t)) 0)
-    (M.Mark (S.good (size_of m) t (tally_of x)))
-    (M.Refused (refusal (mark_rows x m t)))
+abbrev pub mark_answer : LweTag → Modulus → ℕ → Result Bool Refusal
+mark_answer x m t = answer (mark_rows x m t) (S.good (size_of m) t (tally_of x))
 
 -- A call with these rows writes ciphertexts, each with this tag. Where no number applies it answers the tag, and the buffer holds the
--- result; else it answers the first number and no tag, and the buffer holds what it held.
-pub record WritesTagged (rows : List Check) (tag : LweTag) (result before : List ℕ) (answer : LweAnswer) (after : List ℕ)
+-- result; else it answers the first refusal and no tag, and the buffer holds what it held.
+pub record WritesTagged (rows : List Check) (tag : LweTag) (result before : List ℕ) (given : Result LweTag Refusal) (after : List ℕ)
     : Type 0 where
-  pub answered : answer ≡ pick (eqb (refusal rows) 0) (A.Written tag) (A.Refused (refusal rows))
-  pub holds : after ≡ pick (eqb (refusal rows) 0) result before
+  pub answered : given ≡ answer rows tag
+  pub holds : after ≡ pick (refusal rows == 0) result before

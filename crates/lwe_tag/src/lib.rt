@@ -6,18 +6,12 @@ ghost use Rattle.std.specs.Prelude.{◌≡◌, false, ◌||◌, ◌+◌, ◌*◌
 ghost use Rattle.scheme.specs.Checks.{refusal};
 ghost use Rattle.scheme.specs.Tally.{Absent, add_tally, good, tally_fails};
 ghost use Rattle.primus_reduce.specs.Ring.{size_of};
+ghost use Rattle.check_order.specs.Answer.{code_of};
 ghost use Rattle.lwe_tag.specs.Answers.{meant_tally, held_tally, tally_for, number_of_tally, tally_of, tag_of, sum_tag};
 ghost use Rattle.lwe_tag.specs.Answers.{cap, mark_rows, mark_answer};
 
-use check_order::{Sizes, Values};
+use check_order::{Refusal, Sizes, Values};
 use primus_reduce::Modulus;
-
-// A public-key, packed or switched ciphertext has none.
-#[derive(Clone, Copy)]
-pub enum Tally {
-    Absent,
-    Present(u64),
-}
 
 // One number of 64 bits, 2^64 − 1 where there is no tally: as C holds it and as files save it.
 #[repr(C)]
@@ -26,83 +20,61 @@ pub struct LweTag {
     tally: u64,
 }
 
-// What a call that writes ciphertexts answers: the tag of each, or the first number that applies.
-#[derive(Clone, Copy)]
-pub enum LweAnswer {
-    Written(LweTag),
-    Refused(u32),
+// The number that stands for no tally.
+const NO_TALLY: u64 = u64::MAX;
+
+// 17 refuses a tally, given or summed, above this.
+const CAP: u64 = 0x1_0000_0000;
+
+// The tally that one number stands for.
+fn tally_from_number(number: u64) -> Option<u64>
+    ensures { result ≡ tally_for number }
+{
+    match number {
+        NO_TALLY => None,
+        given => Some(given),
+    }
 }
 
-// Whether a ciphertext is marked good, or the first of 2, 7, 8, 17.
-#[derive(Clone, Copy)]
-pub enum MarkAnswer {
-    Mark(bool),
-    Refused(u32),
-}
-
-impl Tally {
-    // The tally that one number stands for: 2^64 − 1 is none, and 17 refuses every other number above 2^32.
-    fn from_number(number: u64) -> Tally
-        ensures { result ≡ tally_for number }
-    {
-        if number == u64::MAX {
-            return Tally::Absent;
-        }
-        Tally::Present(number)
-    }
-
-    // That number.
-    fn number(self) -> u64
-        ensures { result ≡ number_of_tally self }
-    {
-        match self {
-            Tally::Absent => u64::MAX,
-            Tally::Present(a) => a,
-        }
-    }
+// That number.
+fn number_from_tally(tally: Option<u64>) -> u64
+    ensures { result ≡ number_of_tally tally }
+{
+    tally.unwrap_or(NO_TALLY)
 }
 
 // 17, a tally that is given.
-fn tally_refused(tally: Tally) -> bool
+fn tally_refused(tally: Option<u64>) -> bool
     ensures { result ≡ tally_fails cap (meant_tally tally) }
 {
-    match tally {
-        Tally::Absent => false,
-        Tally::Present(a) => 0x1_0000_0000 < a,
-    }
+    tally.is_some_and(|a| CAP < a)
 }
 
 // a + b exceeds 2^32. Two given numbers of 64 bits could wrap: they are compared before they are added.
 fn exceeds(a: u64, b: u64) -> bool
     ensures { result ≡ ltb cap (a + b) }
 {
-    0x1_0000_0000 < a || 0x1_0000_0000 - a < b
+    CAP < a || CAP - a < b
 }
 
 // 17, a sum.
-fn sum_refused(x: Tally, y: Tally) -> bool
+fn sum_refused(x: Option<u64>, y: Option<u64>) -> bool
     ensures { result ≡ tally_fails cap (add_tally (meant_tally x) (meant_tally y)) }
 {
-    match x {
-        Tally::Absent => false,
-        Tally::Present(a) => match y {
-            Tally::Absent => false,
-            Tally::Present(b) => exceeds(a, b),
-        },
+    match (x, y) {
+        (Some(a), Some(b)) => exceeds(a, b),
+        _ => false,
     }
 }
 
 // A sum with one that has none has none.
-fn sum(x: Tally, y: Tally) -> Tally
+fn sum(x: Option<u64>, y: Option<u64>) -> Option<u64>
     requires { tally_fails cap (add_tally (meant_tally x) (meant_tally y)) ≡ false }
     ensures { result ≡ held_tally (add_tally (meant_tally x) (meant_tally y)) }
 {
-    match x {
-        Tally::Absent => Tally::Absent,
-        Tally::Present(a) => match y {
-            Tally::Absent => Tally::Absent,
-            Tally::Present(b) => Tally::Present(a + b),
-        },
+    match (x, y) {
+        (Some(a), Some(b)) => Some(a + b),
+        _ => None,
     }
 }
 
@@ -125,9 +97,8 @@ pub fn tags_sum(x: LweTag, y: LweTag) -> LweTag
     if sum_refused(a, b) {
         return LweTag::none();
     }
-    let tally = sum(a, b);
     LweTag {
-        tally: tally.number(),
+        tally: number_from_tally(sum(a, b)),
     }
 }
 
@@ -143,30 +114,24 @@ fn below(q: u64, t: u32, a: u64) -> bool
 }
 
 // A ciphertext without a tally is never marked good.
-fn marked(q: u64, t: u32, tally: Tally) -> bool
+fn marked(q: u64, t: u32, tally: Option<u64>) -> bool
     requires { (2 ≤ t) × (q ≤ 2 ^ 32) }
     ensures { result ≡ good q t (meant_tally tally) }
 {
-    match tally {
-        Tally::Absent => false,
-        Tally::Present(a) => below(q, t, a),
-    }
+    tally.is_some_and(|a| below(q, t, a))
 }
 
-fn mark_refusal(tag: LweTag, modulus: Modulus, t: u32) -> u32
-    ensures { result ≡ refusal (mark_rows tag modulus t) }
+fn mark_refusal(tag: LweTag, modulus: Modulus, t: u32) -> Result<(), Refusal>
+    ensures { code_of result ≡ refusal (mark_rows tag modulus t) }
 {
     let mut s = Sizes::NONE;
     s.modulus = checks::modulus_refused(modulus);
     s.plaintext = checks::plaintext_refused(t);
     s.small = checks::small_refused(t, modulus);
-    let r = s.first();
-    if r != 0 {
-        return r;
-    }
+    s.judge()?;
     let mut v = Values::NONE;
     v.tally = tag.refused();
-    v.first()
+    v.judge()
 }
 
 impl LweTag {
@@ -182,7 +147,7 @@ impl LweTag {
     pub fn none() -> LweTag
         ensures { result ≡ tag_of Absent }
     {
-        LweTag { tally: u64::MAX }
+        LweTag { tally: NO_TALLY }
     }
 
     // The number to save.
@@ -192,10 +157,11 @@ impl LweTag {
         self.tally
     }
 
-    pub fn tally(self) -> Tally
+    // A public-key, packed or switched ciphertext has none.
+    pub fn tally(self) -> Option<u64>
         ensures { result ≡ tally_for self.tally }
     {
-        Tally::from_number(self.tally)
+        tally_from_number(self.tally)
     }
 
     // 17.
@@ -206,13 +172,11 @@ impl LweTag {
     }
 
     // 2t × tally + t < q. Refuses by 2, 7, 8, 17.
-    pub fn is_good(self, modulus: Modulus, plaintext_modulus: u32) -> MarkAnswer
+    #[tactic(auto, using(check_order::proofs::Answers::refused, check_order::proofs::Answers::served))]
+    pub fn is_good(self, modulus: Modulus, plaintext_modulus: u32) -> Result<bool, Refusal>
         ensures { result ≡ mark_answer self modulus plaintext_modulus }
     {
-        let r = mark_refusal(self, modulus, plaintext_modulus);
-        if r != 0 {
-            return MarkAnswer::Refused(r);
-        }
-        MarkAnswer::Mark(marked(modulus.size(), plaintext_modulus, self.tally()))
+        mark_refusal(self, modulus, plaintext_modulus)?;
+        Ok(marked(modulus.size(), plaintext_modulus, self.tally()))
     }
 }
