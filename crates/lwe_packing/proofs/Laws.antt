@@ -1,84 +1,72 @@
--- Laws of packed ciphertexts: mask products, bodies, and their words.
+-- Laws of packed ciphertexts: mask products, phases and bodies.
 -- Assumes nothing.
-use mathlib.Core.Path.{◌≡◌, sym, ap, ap₂, ◌∙◌}
-use mathlib.Core.List.{List, ◌++◌}
+use mathlib.Core.Path.{◌≡◌, ap, ap₂, ◌∙◌}
+use mathlib.Core.List.{List}
 use Prim.Native.Nat.{ℕ, ◌+◌, ◌-◌, ◌≤◌, ◌<◌}
 use native.Mathlib.Omega.{arith}
 use lib.Dec.{eqb}
 use lib.IntN.{ℤ, pos, ◌+ℤ◌, ◌-ℤ◌, ◌*ℤ◌}
-use lib.ListN.{length, get_or, take, drop, length-drop, length-append, get_or-append}
-use lib.Seq.{get_or-append-add, get_or-take, get_or-drop, length-take-le}
+use lib.ListN.{length, get_or, take, drop, length-drop}
+use lib.Seq.{get_or-take, get_or-drop, length-take-le}
 use borrow.Author.Tests.{ne_eqb}
-use Rattle.scheme.specs.Numbers.{pick, residue, Cong, sum_to, tabulate}
-use Rattle.scheme.specs.Lwe.{words, rotated, packed, packed_phase}
-use Rattle.scheme.proofs.Residue.{cong_refl, cong_trans, cong_add, residue_cong}
-use Rattle.scheme.proofs.Lists.{length-tabulate, get_d_tabulate}
+use Rattle.scheme.specs.Numbers.{pick, residue, sum_to}
+use Rattle.scheme.specs.Lwe.{words, rotated, packed_phase}
+use Rattle.scheme.proofs.Residue.{cong_refl, cong_of_eq, cong_trans, cong_add, residue_cong}
 use Rattle.scheme.proofs.Sums.{sum_ext}
 use Rattle.scheme.proofs.Lwe.{cong_sub}
 use Rattle.primus_reduce.specs.Ring.{modulo}
 use Rattle.primus_reduce.specs.Dot.{dot}
 use Rattle.lwe_secret_key.proofs.Laws.{modulo_stands}
 
--- ---- mask products and bodies
+turned : (i j : ℕ) → i + j ≡ j + i
+turned i j = omega arith
 
 -- a part of the mask and a part of the key
-pub dot_prefix : (a s : List ℕ) (m i k : ℕ) → m ≤ length a → m ≤ k → dot (take m a) (take k (drop i s)) ≡ sum_to m (λ j. pos (get_or a j 0) *ℤ words s (j + i))
+dot_plain : (a s : List ℕ) (m i : ℕ) → m ≤ length a → dot (take m a) (drop i s) ≡ sum_to m (λ j. pos (get_or a j 0) *ℤ words s (j + i))
 unfolding dot
-dot_prefix a s m i k h g =
-    ap (λ z. sum_to z (λ j. pos (get_or (take m a) j 0) *ℤ pos (get_or (take k (drop i s)) j 0))) (length-take-le m a h)
-    ∙ sum_ext m _ _ (λ j l. ap₂ (λ (x : ℕ) (y : ℕ). pos x *ℤ pos y) (get_or-take m a j 0 l) (get_or-take k (drop i s) j 0 (omega arith) ∙ get_or-drop i s j 0 ∙ ap (λ z. get_or s z 0) (turned i j)))
-  where
-    turned : (i j : ℕ) → i + j ≡ j + i
-    turned i j = omega arith
+dot_plain a s m i h =
+    ap (λ z. sum_to z (λ j. pos (get_or (take m a) j 0) *ℤ pos (get_or (drop i s) j 0))) (length-take-le m a h)
+    ∙ sum_ext m _ _ (λ j l. ap₂ (λ (x y : ℕ). pos x *ℤ pos y) (get_or-take m a j 0 l) (get_or-drop i s j 0 ∙ ap (λ z. get_or s z 0) (turned i j)))
 
-pub dot_suffix : (a s : List ℕ) (m i w : ℕ) → w ≡ i → m + i ≤ length a → dot (take w (drop m a)) (take i s) ≡ sum_to i (λ k. pos (get_or a (m + k) 0) *ℤ words s k)
+dot_wrapped : (a s : List ℕ) (m i : ℕ) → length (drop m a) ≡ i → dot (drop m a) (take i s) ≡ sum_to i (λ k. pos (get_or a (m + k) 0) *ℤ words s k)
 unfolding dot
-dot_suffix a s m i w e h =
-    ap (λ z. sum_to z (λ j. pos (get_or (take w (drop m a)) j 0) *ℤ pos (get_or (take i s) j 0))) (length-take-le w (drop m a) (omega (arith, length-drop m a)) ∙ e)
-    ∙ sum_ext i _ _ (λ j l. ap₂ (λ (x : ℕ) (y : ℕ). pos x *ℤ pos y) (get_or-take w (drop m a) j 0 (omega arith) ∙ get_or-drop m a j 0) (get_or-take i s j 0 l))
+dot_wrapped a s m i e =
+    ap (λ z. sum_to z (λ j. pos (get_or (drop m a) j 0) *ℤ pos (get_or (take i s) j 0))) e
+    ∙ sum_ext i _ _ (λ j l. ap₂ (λ (x y : ℕ). pos x *ℤ pos y) (get_or-drop m a j 0) (get_or-take i s j 0 l))
 
-module _ (q n i : ℕ) (h : 0 < q) (a : List ℕ) (s : ℕ → ℤ) where
-  pub rotated-is : (A B : ℤ) (x y r : ℕ) → A ≡ sum_to (n - i) (λ j. pos (get_or a j 0) *ℤ s (j + i)) → B ≡ sum_to i (λ k. pos (get_or a (n - i + k) 0) *ℤ s k)
-      → x ≡ modulo q A → y ≡ modulo q B → r ≡ modulo q (pos x -ℤ pos y) → r ≡ modulo q (rotated n a s i)
-  unfolding rotated
-  rotated-is A B x y r ea eb ex ey e =
-      e ∙ ap (λ z. pick (eqb q 0) 0 z) (residue_cong h (cong_sub first second))
-    where
-      first : Cong q (pos x) (sum_to (n - i) (λ j. pos (get_or a j 0) *ℤ s (j + i)))
-      first = rw (← ea) (modulo_stands h A ex)
+-- two products of parts, one taken from the other
+pub rotated_is : (q i : ℕ) (mask key plain wrapped start rest : List ℕ) (x y : ℕ) {r : ℕ} → 0 < q → i < length mask
+    → plain ≡ take (length mask - i) mask → wrapped ≡ drop (length mask - i) mask → start ≡ take i key → rest ≡ drop i key
+    → x ≡ modulo q (dot plain rest) → y ≡ modulo q (dot wrapped start) → r ≡ modulo q (pos x -ℤ pos y) → r ≡ modulo q (rotated (length mask) mask (words key) i)
+unfolding rotated
+rotated_is q i mask key plain wrapped start rest x y h l pe we se re ex ey er =
+    er
+    ∙ ap (λ z. pick (eqb q 0) 0 z)
+    (residue_cong h
+    (cong_sub (modulo_stands h _ (ex ∙ ap (modulo q) (ap₂ dot pe re ∙ dot_plain mask key _ i (omega arith))))
+    (modulo_stands h _ (ey ∙ ap (modulo q) (ap₂ dot we se ∙ dot_wrapped mask key (length mask - i) i (omega (arith, length-drop (length mask - i) mask)))))))
 
-      second : Cong q (pos y) (sum_to i (λ k. pos (get_or a (n - i + k) 0) *ℤ s k))
-      second = rw (← eb) (modulo_stands h B ey)
+-- a ciphertext begins with its mask
+rotated_mask : (n i : ℕ) (x : List ℕ) (s : ℕ → ℤ) → i < n → rotated n (take n x) s i ≡ rotated n x s i
+unfolding rotated
+rotated_mask n i x s h =
+    ap₂ ◌-ℤ◌ (sum_ext (n - i) _ _ (λ j l. ap (λ (z : ℕ). pos z *ℤ s (j + i)) (get_or-take n x j 0 (omega arith))))
+    (sum_ext i _ _ (λ k l. ap (λ (z : ℕ). pos z *ℤ s k) (get_or-take n x (n - i + k) 0 (omega arith))))
 
-  pub packed-is : (x : ℕ) {r : ℕ} → x ≡ modulo q (rotated n a s i) → r ≡ modulo q (pos (get_or a (n + i) 0) -ℤ pos x) → r ≡ packed_phase q n a s i
-  unfolding packed_phase
-  packed-is x ex e = e ∙ rw (ne_eqb q 0 (λ f. omega arith)) (residue_cong h (cong_sub (cong_refl q (pos (get_or a (n + i) 0))) (modulo_stands h (rotated n a s i) ex)))
+pub phase_is : (q n i : ℕ) (x mask bodies : List ℕ) (s : ℕ → ℤ) (product : ℕ) {r : ℕ} → 0 < q → i < n → length mask ≡ n
+    → mask ≡ take n x → bodies ≡ drop n x
+    → product ≡ modulo q (rotated (length mask) mask s i) → r ≡ modulo q (pos (get_or bodies i 0) -ℤ pos product) → r ≡ packed_phase q n x s i
+unfolding packed_phase
+phase_is q n i x mask bodies s product h l size me be ep er =
+    er
+    ∙ rw (ne_eqb q 0 (λ f. omega arith))
+    (residue_cong h
+    (cong_sub (cong_of_eq q (ap (λ xs. pos (get_or xs i 0)) be ∙ ap pos (get_or-drop n x i 0)))
+    (modulo_stands h _ (ep ∙ ap (modulo q) (ap₂ (λ (m : ℕ) (a : List ℕ). rotated m a s i) size me ∙ rotated_mask n i x s l)))))
 
 -- body i, from the words that stand for its mask product and its error
-pub packed_body_is : (q n : ℕ) (a : List ℕ) (s : ℕ → ℤ) (e : ℤ) (i p x w y : ℕ) {r : ℕ} → 0 < q → x ≡ modulo q (rotated n a s i) → w ≡ modulo q e
-    → y ≡ modulo q (pos x +ℤ pos w) → r ≡ modulo q (pos y +ℤ pos p) → r ≡ residue (rotated n a s i +ℤ e +ℤ pos p) q
-packed_body_is q n a s e i p x w y h ex ew ey er =
+pub body_is : (q z : ℕ) (a e : ℤ) (x w y : ℕ) {r : ℕ} → 0 < q → x ≡ modulo q a → w ≡ modulo q e
+    → y ≡ modulo q (pos x +ℤ pos w) → r ≡ modulo q (pos y +ℤ pos z) → r ≡ residue (a +ℤ e +ℤ pos z) q
+body_is q z a e x w y h ex ew ey er =
     er
-    ∙ rw (ne_eqb q 0 (λ f. omega arith)) (residue_cong h (cong_add (cong_trans (modulo_stands h (pos x +ℤ pos w) ey) (cong_add (modulo_stands h _ ex) (modulo_stands h _ ew))) (cong_refl q (pos p))))
-
--- word k of a packed ciphertext
-module _ (q c : ℕ) (a : List ℕ) (s e p : ℕ → ℤ) (k : ℕ) where
-  pub packed_mask : k < length a → get_or a k 0 ≡ get_or (packed q (length a) c a s e p) k 0
-  unfolding packed
-  packed_mask h = sym (get_or-append a _ 0 k h)
-
-  pub packed_body : {r : ℕ} → length a ≤ k → k - length a < c → r ≡ residue (rotated (length a) a s (k - length a) +ℤ e (k - length a) +ℤ p (k - length a)) q
-      → r ≡ get_or (packed q (length a) c a s e p) k 0
-  unfolding packed
-  packed_body l m er =
-      er ∙ sym (ap (λ z. get_or (a ++ tabulate c body) z 0) place ∙ get_or-append-add a (tabulate c body) (k - length a) 0 ∙ get_d_tabulate c body (k - length a) m)
-    where
-      body : ℕ → ℕ
-      body i = residue (rotated (length a) a s i +ℤ e i +ℤ p i) q
-
-      place : k ≡ length a + (k - length a)
-      place = omega arith
-
-  pub packed-length : length (packed q (length a) c a s e p) ≡ length a + c
-  unfolding packed
-  packed-length = length-append a _ ∙ ap (λ z. length a + z) (length-tabulate c _)
+    ∙ rw (ne_eqb q 0 (λ f. omega arith)) (residue_cong h (cong_add (cong_trans (modulo_stands h _ ey) (cong_add (modulo_stands h a ex) (modulo_stands h e ew))) (cong_refl q (pos z))))

@@ -1,5 +1,5 @@
 // The innermost steps of packed encryption and phases. Body i uses the mask rotated right by i, its first i words negated.
-ghost use Rattle.std.specs.Prelude.{◌≡◌, ◌+◌, ◌<◌, ◌≤◌, pos, ◌+ℤ◌, length, get_or};
+ghost use Rattle.std.specs.Prelude.{◌≡◌, ◌+◌, ◌<◌, ◌≤◌, pos, ◌+ℤ◌, length};
 ghost use Rattle.scheme.specs.Numbers.{residue, tabulate};
 ghost use Rattle.scheme.specs.Lwe.{words, signed, rotated, packed, packed_phase};
 ghost use Rattle.primus_reduce.specs.Ring.{size_of, modulo};
@@ -17,45 +17,40 @@ pub enum Packing {
 }
 
 // Σ over j < n−i of a_j·s_(j+i), minus Σ over j ≥ n−i of a_j·s_(j−n+i).
-fn rotated_mask_product(
-    a: &[u32],
-    secret: &[u32],
-    index: usize,
-    dimension: usize,
-    modulus: Modulus,
-) -> u32
-    requires { (index < dimension) × (dimension ≤ length a.now) × (length secret.now ≡ dimension)
-        × (0 < size_of modulus) }
+#[tactic(auto, using(crate::proofs::Laws::rotated_is))]
+fn rotated_mask_product(mask: &[u32], secret: &[u32], index: usize, modulus: Modulus) -> u32
+    requires { (index < length mask.now) × (length secret.now ≡ length mask.now) × (0 < size_of modulus) }
     ensures { result ≡
-        modulo (size_of modulus) (rotated dimension a.now (words secret.now) index) }
+        modulo (size_of modulus) (rotated (length mask.now) mask.now (words secret.now) index) }
 {
-    let split = dimension - index;
-    let prefix = modulus.reduce_dot_product(&a[..split], &secret[index..]);
-    let suffix = modulus.reduce_dot_product(&a[split..dimension], &secret[..index]);
+    let (plain, wrapped) = mask.split_at(mask.len() - index);
+    let (start, rest) = secret.split_at(index);
+    let prefix = modulus.reduce_dot_product(plain, rest);
+    let suffix = modulus.reduce_dot_product(wrapped, start);
     modulus.reduce_sub(prefix, suffix)
 }
 
-// Body i less its mask product.
-fn body_phase(input: &[u32], secret: &[u32], i: usize, dimension: usize, modulus: Modulus) -> u32
-    requires { (0 < size_of modulus) × (length secret.now ≡ dimension) × (i < dimension)
-        × (dimension + i < length input.now) }
+// Body i less its mask product. The input has as many mask words as the key has.
+#[tactic(auto, using(crate::proofs::Laws::phase_is))]
+fn body_phase(input: &[u32], secret: &[u32], i: usize, modulus: Modulus) -> u32
+    requires { (0 < size_of modulus) × (i < length secret.now)
+        × (length secret.now + i < length input.now) }
     ensures { result ≡
-        packed_phase (size_of modulus) dimension input.now (words secret.now) i }
+        packed_phase (size_of modulus) (length secret.now) input.now (words secret.now) i }
 {
-    let product = rotated_mask_product(input, secret, i, dimension, modulus);
-    modulus.reduce_sub(input[dimension + i], product)
+    let (mask, bodies) = input.split_at(secret.len());
+    let product = rotated_mask_product(mask, secret, i, modulus);
+    modulus.reduce_sub(bodies[i], product)
 }
 
-pub fn phases(out: &mut [u32], input: &[u32], secret: &[u32], dimension: usize, modulus: Modulus)
-    requires { (length out.old ≤ dimension) × (length input.now ≡ dimension + length out.old)
-        × (length secret.now ≡ dimension) × (0 < size_of modulus) }
+pub fn phases(out: &mut [u32], input: &[u32], secret: &[u32], modulus: Modulus)
+    requires { (length out.old ≤ length secret.now)
+        × (length input.now ≡ length secret.now + length out.old) × (0 < size_of modulus) }
     ensures { out.new ≡ tabulate (length out.old)
-        (packed_phase (size_of modulus) dimension input.now (words secret.now)) }
+        (packed_phase (size_of modulus) (length secret.now) input.now (words secret.now)) }
 {
-    let mut i = 0;
-    while i < out.len() {
-        out[i] = body_phase(input, secret, i, dimension, modulus);
-        i += 1;
+    for (i, x) in out.iter_mut().enumerate() {
+        *x = body_phase(input, secret, i, modulus);
     }
 }
 
@@ -70,6 +65,7 @@ fn plaintext(packing: Packing, x: u32, modulus: Modulus) -> u32
 }
 
 // Body i: its mask product plus error i and the plaintext.
+#[tactic(auto, using(crate::proofs::Laws::body_is))]
 fn packed_body(
     mask: &[u32],
     secret: &[u32],
@@ -83,38 +79,13 @@ fn packed_body(
         residue (rotated (length mask.now) mask.now (words secret.now) i
         +ℤ signed errors.now i +ℤ pos plaintext) (size_of modulus) }
 {
-    let product = rotated_mask_product(mask, secret, i, mask.len(), modulus);
+    let product = rotated_mask_product(mask, secret, i, modulus);
     let error = error_residue(errors, i, modulus);
     let noisy = modulus.reduce_add(product, error);
     modulus.reduce_add(noisy, plaintext)
 }
 
-// Word k of a packed ciphertext: a mask word, or body k − n.
-fn packed_word(
-    packing: Packing,
-    mask: &[u32],
-    secret: &[u32],
-    errors: &[i32],
-    lent: &[u32],
-    k: usize,
-    modulus: Modulus,
-) -> u32
-    requires { Packable (size_of modulus) (length mask.now) (length secret.now) (length lent.now)
-        × (k < length mask.now + length lent.now) }
-    ensures { result ≡
-        get_or (packed (size_of modulus) (length mask.now) (length lent.now) mask.now
-        (words secret.now) (signed errors.now)
-        (plaintexts packing modulus lent.now)) k 0 }
-{
-    let n = mask.len();
-    if k < n {
-        return mask[k];
-    }
-    let i = k - n;
-    let p = plaintext(packing, lent[i], modulus);
-    packed_body(mask, secret, errors, i, p, modulus)
-}
-
+// A mask, then a body for each lent word.
 pub fn write_packed(
     out: &mut [u32],
     packing: Packing,
@@ -131,9 +102,10 @@ pub fn write_packed(
         (words secret.now) (signed errors.now)
         (plaintexts packing modulus lent.now) }
 {
-    let mut k = 0;
-    while k < out.len() {
-        out[k] = packed_word(packing, mask, secret, errors, lent, k, modulus);
-        k += 1;
+    let (front, bodies) = out.split_at_mut(mask.len());
+    front.copy_from_slice(mask);
+    for (i, body) in bodies.iter_mut().enumerate() {
+        let p = plaintext(packing, lent[i], modulus);
+        *body = packed_body(mask, secret, errors, i, p, modulus);
     }
 }

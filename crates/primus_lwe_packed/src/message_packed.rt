@@ -44,9 +44,8 @@ pub fn decrypt_message_packed(
     if r != 0 {
         return r;
     }
-    let n = params.dimension.get();
     let modulus = params.modulus;
-    lwe_packing::phases(out, input, secret, n, modulus);
+    lwe_packing::phases(out, input, secret, modulus);
     let codec = RoundedCodec::given(params.plaintext_modulus, modulus);
     // The codec's checks have passed, and a phase is a word: 0.
     codec.decode_slice_assign(out)

@@ -49,8 +49,7 @@ pub fn decrypt_phase_packed(
     if r != 0 {
         return r;
     }
-    let n = params.dimension.get();
     let modulus = params.modulus;
-    lwe_packing::phases(out, input, secret, n, modulus);
+    lwe_packing::phases(out, input, secret, modulus);
     0
 }

@@ -1,13 +1,9 @@
-use Prim.Native.Nat.{◌-◌}
-use lib.ListN.{length}
-use Rattle.scheme.specs.Lwe.{words, signed, packed}
-use Rattle.scheme.proofs.InPlace.{Filled}
+use Rattle.std.proofs.Common.{◌≡◌, ◌<◌, ℕ, length, ◌+ℤ◌, get_or}
+use Rattle.scheme.specs.Numbers.{residue}
+use Rattle.scheme.specs.Lwe.{words, signed, rotated}
 use Rattle.primus_reduce.specs.Ring.{size_of}
 use Rattle.lwe_packing.specs.Packing.{plaintexts}
 use Rattle.lwe_packing.proofs.packed.write_packed.Given as goal
 
-abbrev pub invariant-loop-k : goal.invariant-loop-k
-invariant-loop-k l = Filled (packed (size_of l.modulus) (length l.mask) (length l.lent) l.mask (words l.secret) (signed l.errors) (plaintexts l.packing l.modulus l.lent)) l.initial.out l.out l.k
-
-abbrev pub decreases-loop-k : goal.decreases-loop-k
-decreases-loop-k l = length l.initial.out - l.k
+abbrev pub invariant-loop-i : goal.invariant-loop-i
+invariant-loop-i l = (k : ℕ) → k < l.i → get_or l.bodies k 0 ≡ residue (rotated (length l.mask) l.mask (words l.secret) k +ℤ signed l.errors k +ℤ plaintexts l.packing l.modulus l.lent k) (size_of l.modulus)

@@ -14,9 +14,8 @@ pub phases-requires : goal.phases-requires
 phases-requires c =
     let ready : Phasable (size_of c.args.params.modulus) c.args.params.dimension.0 (length c.args.secret.now) (length c.args.input.now) (length c.args.out.now)
     × Codable c.args.params.plaintext_modulus c.args.params.modulus = decryptable c.args.params c.args.secret.now c.args.input.now _ (sym c.packed_decrypt_refusal-r.ensures ∙ c.if-r-ne0.false) in
-    let g = c.get-n.ensures in
     let r = ready.0 in
-    (omega (arith, r.bodies), omega (arith, r.whole), r.keys ∙ sym g, r.positive)
+    (omega (arith, r.bodies, r.keys), omega (arith, r.whole, r.keys), r.positive)
 
 pub returns : goal.returns
 returns c =
@@ -30,6 +29,6 @@ returns c =
           done_by (sym c.packed_decrypt_refusal-r.ensures ∙ c.if-r-ne0.false)
           (slice_decoded c.args.params r.1 (packed_phase q n c.args.input.now (words c.args.secret.now)) (length c.args.input.now - n)
           (λ i h. packed-below q n c.args.input.now (words c.args.secret.now) i r.0.positive) _ _ _ _ _ c.given-codec.ensures
-          (c.phases.ensures ∙ ap₂ (λ (m : ℕ) (n : ℕ). tabulate m (packed_phase q n c.args.input.now (words c.args.secret.now))) r.0.count c.get-n.ensures)
+          (c.phases.ensures ∙ ap₂ (λ (m : ℕ) (n : ℕ). tabulate m (packed_phase q n c.args.input.now (words c.args.secret.now))) r.0.count r.0.keys)
           c.decode_slice_assign.ensures);
     }

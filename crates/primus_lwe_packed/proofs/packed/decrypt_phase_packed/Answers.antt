@@ -12,9 +12,8 @@ use Rattle.primus_lwe_packed.proofs.packed.decrypt_phase_packed.Goals as goal
 pub phases-requires : goal.phases-requires
 phases-requires c =
     let ready : Phasable (size_of c.args.params.modulus) c.args.params.dimension.0 (length c.args.secret.now) (length c.args.input.now) (length c.args.out.now) = phasable c.args.params c.args.secret.now c.args.input.now _ (sym c.packed_phase_refusal-r.ensures ∙ c.if-r-ne0.false) in
-    let g = c.get-n.ensures in
     let r = ready in
-    (omega (arith, r.bodies), omega (arith, r.whole), r.keys ∙ sym g, r.positive)
+    (omega (arith, r.bodies, r.keys), omega (arith, r.whole, r.keys), r.positive)
 
 pub returns : goal.returns
 returns c =
@@ -23,5 +22,5 @@ returns c =
       writes =
           done (sym c.packed_phase_refusal-r.ensures ∙ c.if-r-ne0.false)
           (c.phases.ensures
-          ∙ ap₂ (λ (m : ℕ) (n : ℕ). tabulate m (packed_phase (size_of c.args.params.modulus) n c.args.input.now (words c.args.secret.now))) ready.count c.get-n.ensures);
+          ∙ ap₂ (λ (m : ℕ) (n : ℕ). tabulate m (packed_phase (size_of c.args.params.modulus) n c.args.input.now (words c.args.secret.now))) ready.count ready.keys);
     }
