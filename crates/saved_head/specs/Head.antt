@@ -5,6 +5,7 @@ use Rattle.scheme.specs.Numbers.{pick}
 use Rattle.scheme.specs.Checks.{Check, row, applies}
 use Rattle.little_endian.specs.Bytes.{word32, word64}
 use Rattle.primus_reduce.specs.Ring.{modulus_for}
+use Rattle.saved_head.specs.Kind.{kind_for}
 use Rattle.saved_head.specs.declared.head.Head.{Head}
 
 -- the numbers of the head, each four bytes at its place
@@ -24,7 +25,7 @@ beside_of s = word32 s 48
 unfoldable pub head_of : List ℕ → Head
 head_of s =
     record {
-      kind = kind_of s;
+      kind = kind_for (kind_of s);
       modulus = modulus_for (word32 s 12);
       n = word32 s 16;
       m = word32 s 20;

@@ -1,15 +1,19 @@
 // The head of a saved file: 64 bytes. Whatever is no whole file of this layout is refused by 19.
-ghost use Rattle.std.specs.Prelude.{◌≡◌, length};
+ghost use Rattle.std.specs.Prelude.{◌≡◌, not, eqb, ltb, length};
 ghost use Rattle.scheme.specs.Numbers.{pick};
+ghost use Rattle.check_order.specs.Answer.{code_of};
+ghost use Rattle.saved_head.specs.Kind.{is_ciphertexts};
 ghost use Rattle.saved_head.specs.Head.{head_of, file_fails};
-ghost use Rattle.saved_head.specs.Head.{signature_fails, kind_fails, beside_fails, kept_fails, size_fails};
+ghost use Rattle.saved_head.specs.Head.{signature_fails, kept_fails, size_fails};
 
+use crate::Kind;
+use check_order::Refusal;
 use primus_reduce::Modulus;
 
 // What the words are, and what they were made with; 0 where a number does not apply.
 #[derive(Clone, Copy)]
 pub struct Head {
-    pub kind: u32,
+    pub kind: Kind,
     pub modulus: Modulus,
     pub n: usize,
     pub m: usize,
@@ -23,12 +27,13 @@ pub struct Head {
 }
 
 // The head, of any bytes.
+#[tactic(auto, unfolding(crate::specs::Head::head_of))]
 pub fn head_of(bytes: &[u8]) -> Head
     ensures { result ≡ head_of bytes.now }
 {
     let modulus = Modulus::from_number(little_endian::u32_at(bytes, 12));
     Head {
-        kind: little_endian::u32_at(bytes, 8),
+        kind: Kind::from(little_endian::u32_at(bytes, 8)),
         modulus,
         n: little_endian::u32_at(bytes, 16) as usize,
         m: little_endian::u32_at(bytes, 20) as usize,
@@ -49,17 +54,11 @@ fn signature_unknown(bytes: &[u8]) -> bool
     little_endian::u64_at(bytes, 0) != 0x1_4e4c_4753
 }
 
-fn kind_unknown(kind: u32) -> bool
-    ensures { result ≡ kind_fails kind }
-{
-    kind < 1 || 7 < kind
-}
-
 // Only ciphertexts of one message have tallies beside their words; nothing else is saved by this release.
-fn beside_refused(kind: u32, beside: u32) -> bool
-    ensures { result ≡ beside_fails kind beside }
+fn beside_refused(kind: Kind, beside: u32) -> bool
+    ensures { result ≡ pick (is_ciphertexts kind) (ltb 1 beside) (not (eqb beside 0)) }
 {
-    if kind == 5 {
+    if kind.is_ciphertexts() {
         return 1 < beside;
     }
     beside != 0
@@ -82,22 +81,24 @@ fn size_differs(len: usize, words: u32, count: u32, beside: u32) -> bool
     len != 64 + 4 * words as usize
 }
 
-// 19: no whole file of this layout.
+// Whether bytes are no whole file of this layout.
+#[tactic(auto, unfolding(crate::specs::Head::head_of))]
 pub fn file_refused(bytes: &[u8]) -> bool
     ensures { result ≡ file_fails bytes.now }
 {
     let h = head_of(bytes);
     let r = size_differs(bytes.len(), h.words, h.count, h.beside) | kept_used(bytes);
-    let r = (r | beside_refused(h.kind, h.beside)) | kind_unknown(h.kind);
+    let r = (r | beside_refused(h.kind, h.beside)) | h.kind.is_unknown();
     (r | signature_unknown(bytes)) | (bytes.len() < 64)
 }
 
-// 19 for bytes that are no whole file of this layout, else 0.
-pub fn file_refusal(bytes: &[u8]) -> u32
-    ensures { result ≡ pick (file_fails bytes.now) 19 0 }
+// 19 for bytes that are no whole file of this layout.
+#[tactic(auto, unfolding(check_order::specs::Answer::number_of))]
+pub fn file_refusal(bytes: &[u8]) -> Result<(), Refusal>
+    ensures { code_of result ≡ pick (file_fails bytes.now) 19 0 }
 {
     if file_refused(bytes) {
-        return 19;
+        return Err(Refusal::Unreadable);
     }
-    0
+    Ok(())
 }

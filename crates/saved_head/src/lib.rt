@@ -2,5 +2,7 @@
 #![tactic(auto)]
 
 mod head;
+mod kind;
 
 pub use head::{Head, file_refusal, file_refused, head_of};
+pub use kind::Kind;

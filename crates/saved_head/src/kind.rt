@@ -1,0 +1,64 @@
+// What the words of a saved file are.
+ghost use Rattle.std.specs.Prelude.{◌≡◌};
+ghost use Rattle.saved_head.specs.Kind.{kind_for, number_of, is_ciphertexts, is_unknown};
+
+// A number of no kind is kept: such a file is refused.
+#[derive(Clone, Copy, Debug, PartialEq, Eq)]
+pub enum Kind {
+    SecretKey,
+    SignedSecretKey,
+    SwitchingKey,
+    PublicKey,
+    Ciphertexts,
+    Packed,
+    Messages,
+    Unknown(u32),
+}
+
+impl Kind {
+    // The number that a file gives it.
+    pub fn number(self) -> u32
+        ensures { result ≡ number_of self }
+    {
+        match self {
+            Kind::SecretKey => 1,
+            Kind::SignedSecretKey => 2,
+            Kind::SwitchingKey => 3,
+            Kind::PublicKey => 4,
+            Kind::Ciphertexts => 5,
+            Kind::Packed => 6,
+            Kind::Messages => 7,
+            Kind::Unknown(number) => number,
+        }
+    }
+
+    // Ciphertexts of one message each.
+    pub fn is_ciphertexts(self) -> bool
+        ensures { result ≡ is_ciphertexts self }
+    {
+        matches!(self, Kind::Ciphertexts)
+    }
+
+    pub fn is_unknown(self) -> bool
+        ensures { result ≡ is_unknown self }
+    {
+        matches!(self, Kind::Unknown(_))
+    }
+}
+
+impl From<u32> for Kind {
+    ghost from_gives = { λ number kind. kind ≡ kind_for number };
+
+    fn from(number: u32) -> Kind {
+        match number {
+            1 => Kind::SecretKey,
+            2 => Kind::SignedSecretKey,
+            3 => Kind::SwitchingKey,
+            4 => Kind::PublicKey,
+            5 => Kind::Ciphertexts,
+            6 => Kind::Packed,
+            7 => Kind::Messages,
+            _ => Kind::Unknown(number),
+        }
+    }
+}
