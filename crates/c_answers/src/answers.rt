@@ -1,12 +1,12 @@
-// Answers for C: a refusal with a tag, or one number of 64 bits, the result or 2^32 plus the refusal number.
+// Answers for C: a refusal's number, or it with a tag, or one number of 64 bits: the result, or 2^32 plus the refusal's number.
 ghost use Rattle.std.specs.Prelude.{◌≡◌};
-ghost use Rattle.primus_encoding.specs.Answers.{or_zero};
+ghost use Rattle.check_order.specs.Answer.{code_of, number_of};
 ghost use Rattle.c_answers.specs.Service.{outcome_of, refused_number, word_number, mark_number};
 
-use checks::WordAnswer;
-use lwe_tag::{LweAnswer, LweTag, MarkAnswer};
+use check_order::Refusal;
+use lwe_tag::LweTag;
 
-// 0 and the tag of each ciphertext that was written; or the first number that applies, and no tally.
+// 0 and the tag of each ciphertext that was written; or the number of the first refusal, and no tally.
 #[repr(C)]
 #[derive(Clone, Copy)]
 pub struct LweOutcome {
@@ -14,53 +14,50 @@ pub struct LweOutcome {
     pub tag: LweTag,
 }
 
-pub fn outcome(answer: LweAnswer) -> LweOutcome
-    ensures { result ≡ outcome_of answer }
-{
-    match answer {
-        LweAnswer::Written(tag) => LweOutcome { refusal: 0, tag },
-        LweAnswer::Refused(refusal) => LweOutcome {
-            refusal,
-            tag: LweTag::none(),
-        },
+impl From<Result<LweTag, Refusal>> for LweOutcome {
+    ghost from_gives = { λ answer outcome. outcome ≡ outcome_of answer };
+
+    fn from(answer: Result<LweTag, Refusal>) -> LweOutcome {
+        match answer {
+            Ok(tag) => LweOutcome { refusal: 0, tag },
+            Err(refusal) => LweOutcome {
+                refusal: refusal.number(),
+                tag: LweTag::none(),
+            },
+        }
     }
 }
 
-pub fn refused(r: u32) -> u64
-    ensures { result ≡ refused_number r }
+// 0, or the refusal's number.
+pub fn code(answer: Result<(), Refusal>) -> u32
+    ensures { result ≡ code_of answer }
 {
-    0x1_0000_0000 + r as u64
+    match answer {
+        Ok(()) => 0,
+        Err(refusal) => refusal.number(),
+    }
 }
 
-pub fn word_number(answer: WordAnswer) -> u64
+fn refused(refusal: Refusal) -> u64
+    ensures { result ≡ refused_number (number_of refusal) }
+{
+    0x1_0000_0000 + refusal.number() as u64
+}
+
+pub fn word_number(answer: Result<u32, Refusal>) -> u64
     ensures { result ≡ word_number answer }
 {
     match answer {
-        WordAnswer::Word(x) => x as u64,
-        WordAnswer::Refused(r) => refused(r),
+        Ok(word) => word as u64,
+        Err(refusal) => refused(refusal),
     }
 }
 
-// The word, or 0: for a call that has judged the numbers itself.
-pub fn or_zero(answer: WordAnswer) -> u32
-    ensures { result ≡ or_zero answer }
-{
-    match answer {
-        WordAnswer::Word(x) => x,
-        WordAnswer::Refused(_) => 0,
-    }
-}
-
-pub fn mark_number(answer: MarkAnswer) -> u64
+pub fn mark_number(answer: Result<bool, Refusal>) -> u64
     ensures { result ≡ mark_number answer }
 {
     match answer {
-        MarkAnswer::Mark(good) => {
-            if good {
-                return 1;
-            }
-            0
-        }
-        MarkAnswer::Refused(r) => refused(r),
+        Ok(good) => u64::from(good),
+        Err(refusal) => refused(refusal),
     }
 }

@@ -3,4 +3,4 @@
 
 mod answers;
 
-pub use answers::{LweOutcome, mark_number, or_zero, outcome, refused, word_number};
+pub use answers::{LweOutcome, code, mark_number, word_number};
