@@ -1,17 +1,22 @@
 -- How refusals make answers.
 --     for_number       a number that has a refusal has one
---     early_lem, late_lem, only_lem      sizes are judged before values
+--     code_is          an answer's number is that of the first refusal, or 0
+--     first_size, first_value, only_size sizes are judged before values
 --     refused, served  a call whose answer is its own
 --     unwritten        a refused call leaves a lent buffer as it was
 -- Assumes nothing.
-use Rattle.std.proofs.Common.{◌≡◌, refl, sym, ap, ◌∙◌, ℕ, List, Result, Ok, Err, arith}
-use Rattle.scheme.specs.Checks.{Check, values, applies, first_in, refusal, Writes}
+use Rattle.std.proofs.Common.{◌≡◌, refl, sym, ap, ◌∙◌, Bool, true, false, ◌&&◌, [], ◌∷◌, ℕ, List, Result, Ok, Err, arith}
+use lib.Dec.{T, eqb}
+use mir.Facts.{and_yes, eqb_yes}
+use borrow.Author.Tests.{eqb-true, eqb-false}
+use Rattle.scheme.specs.Numbers.{pick}
+use Rattle.scheme.specs.Checks.{Check, values, order, applies, first_in, refusal, Writes}
 use Rattle.scheme.proofs.Order.{early, late, only, refused as refused_buffer, told, given}
 use Rattle.check_order.specs.declared.refusal.Refusal.{Refusal}
 use Rattle.check_order.specs.declared.refusal.Refusal.TheVariants as R
 use Rattle.check_order.specs.declared.Sizes.{Sizes}
 use Rattle.check_order.specs.declared.Values.{Values}
-use Rattle.check_order.specs.Answer.{number_of, refusal_for, answer}
+use Rattle.check_order.specs.Answer.{number_of, refusal_for, code_of, answer}
 use Rattle.check_order.specs.Judged.{JudgesSizes, JudgesValues, FirstSize, FirstValue}
 
 pub for_number : (e : Refusal) → refusal_for (number_of e) ≡ e
@@ -55,6 +60,30 @@ some_number R.Message z = omega arith
 some_number R.Tally z = omega arith
 some_number R.NoBasis z = omega arith
 some_number R.Unreadable z = omega arith
+
+-- each number of a list is that of a refusal
+abbrev known : List ℕ → Bool
+known [] = true
+known (k ∷ ks) = eqb (number_of (refusal_for k)) k && known ks
+
+back : (f : ℕ → Bool) (ks : List ℕ) → T (known ks) → (first_in f ks ≡ 0 → ⊥) → number_of (refusal_for (first_in f ks)) ≡ first_in f ks
+unfolding first_in
+back f [] t h = absurd (h refl)
+back f (k ∷ ks) t h = go (f k) h (back f ks (and_yes (eqb (number_of (refusal_for k)) k) (known ks) t).1)
+  where
+    go : (b : Bool) → (pick b k (first_in f ks) ≡ 0 → ⊥) → ((first_in f ks ≡ 0 → ⊥) → number_of (refusal_for (first_in f ks)) ≡ first_in f ks)
+        → number_of (refusal_for (pick b k (first_in f ks))) ≡ pick b k (first_in f ks)
+    go true h rest = eqb_yes (and_yes (eqb (number_of (refusal_for k)) k) (known ks) t).0
+    go false h rest = rest h
+
+-- the number of a call's answer is that of the first refusal, or 0
+pub code_is : {A : Type 0} (rows : List Check) (x : A) → code_of (answer rows x) ≡ refusal rows
+unfolding answer refusal number_of refusal_for
+code_is rows x = go (eqb (refusal rows) 0) refl
+  where
+    go : (b : Bool) → eqb (refusal rows) 0 ≡ b → code_of (pick b (Ok x) (Err (refusal_for (refusal rows)))) ≡ refusal rows
+    go true e = sym (eqb-true (refusal rows) 0 e)
+    go false e = back (applies rows) order tt (eqb-false (refusal rows) 0 e)
 
 -- ---- sizes before values
 
