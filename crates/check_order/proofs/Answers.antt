@@ -2,7 +2,7 @@
 --     for_number       a number that has a refusal has one
 --     code_is          an answer's number is that of the first refusal, or 0
 --     first_size, first_value, only_size sizes are judged before values
---     refused, served  a call whose answer is its own
+--     refused, served  a call whose answer is its own; accepted, answered_ok: back from such an answer
 --     unwritten        a refused call leaves a lent buffer as it was
 -- Assumes nothing.
 use Rattle.std.proofs.Common.{◌≡◌, refl, sym, ap, ◌∙◌, Bool, true, false, ◌&&◌, [], ◌∷◌, ℕ, List, Result, Ok, Err, arith}
@@ -110,6 +110,16 @@ refused rows x e h =
 pub served : {A : Type 0} (rows : List Check) (v x : A) → 0 ≡ refusal rows → v ≡ x → ◌≡◌ {A = Result A Refusal} (Ok v) (answer rows x)
 unfolding answer
 served rows v x h e = given (refusal rows) (Ok v) (Ok x) (Err (refusal_for (refusal rows))) (sym h) (ap Ok e)
+
+pub accepted : {A : Type 0} (rows : List Check) (x : A) → refusal rows ≡ 0 → ◌≡◌ {A = Result A Refusal} (answer rows x) (Ok x)
+accepted rows x e = sym (served rows x x (sym e) refl)
+
+-- a call that answers a value was not refused, and the value is its own
+pub answered_ok : {A : Type 0} (rows : List Check) (x v : A) → ◌≡◌ {A = Result A Refusal} (Ok v) (answer rows x) → (refusal rows ≡ 0) × (v ≡ x)
+answered_ok {A} rows x v h = let z : refusal rows ≡ 0 = sym (code_is rows x) ∙ sym (ap code_of h) in (z, same (h ∙ accepted rows x z))
+  where
+    same : ◌≡◌ {A = Result A Refusal} (Ok v) (Ok x) → v ≡ x
+    same e = cc
 
 -- ---- a call with a lent buffer
 

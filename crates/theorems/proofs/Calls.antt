@@ -13,14 +13,14 @@ use Prim.Native.Nat.{ℕ, suc}
 use native.Mathlib.Omega.{arith}
 use lib.Dec.{eqb, ltb}
 use borrow.Author.Tests.{eq-eqb, eqb-true, lt-ltb}
+use Rattle.std.proofs.Common.{Result, Ok}
+use Rattle.check_order.specs.declared.refusal.Refusal.{Refusal}
 use Rattle.scheme.specs.Numbers.{pick}
 use Rattle.scheme.specs.Switch.{Below}
 use Rattle.scheme.specs.Checks.{Check, refusal, all_of, words_fail, length_fails, Writes}
-use Rattle.checks.specs.Answers.{word_answer}
-use Rattle.checks.specs.declared.WordAnswer.TheVariants.{Word}
 use Rattle.lwe_tag.specs.declared.LweTag.{LweTag}
-use Rattle.lwe_tag.specs.declared.LweAnswer.{LweAnswer}
-use Rattle.lwe_tag.specs.declared.LweAnswer.TheVariants.{Written, Refused}
+use Rattle.check_order.specs.Answer.{answer}
+use Rattle.check_order.proofs.Answers.{accepted, answered_ok}
 use Rattle.lwe_tag.specs.Answers.{WritesTagged}
 
 pub settled : {A : Type 0} {rows : List Check} {result before after : List A} {r : ℕ} → Writes rows result before r after → refusal rows ≡ 0
@@ -30,21 +30,17 @@ settled {rows = rows} w e = (w.answered ∙ e, w.holds ∙ rw (eq-eqb (refusal r
 pub wrote : {A : Type 0} {rows : List Check} {result before after : List A} → Writes rows result before 0 after → (refusal rows ≡ 0) × (after ≡ result)
 wrote w = (sym w.answered, (settled w (sym w.answered)).1)
 
-pub settled_tag : {rows : List Check} {tag : LweTag} {result before after : List ℕ} {answer : LweAnswer} → WritesTagged rows tag result before answer after
-    → refusal rows ≡ 0 → (answer ≡ Written tag) × (after ≡ result)
-settled_tag {rows = rows} w e = (w.answered ∙ rw (eq-eqb (refusal rows) 0 e), w.holds ∙ rw (eq-eqb (refusal rows) 0 e))
+pub settled_tag : {rows : List Check} {tag : LweTag} {result before after : List ℕ} {given : Result LweTag Refusal} → WritesTagged rows tag result before given after
+    → refusal rows ≡ 0 → (given ≡ Ok tag) × (after ≡ result)
+settled_tag {rows = rows} {tag = tag} w e = (w.answered ∙ accepted rows tag e, w.holds ∙ rw (eq-eqb (refusal rows) 0 e))
 
-pub written : {rows : List Check} {tag g : LweTag} {result before after : List ℕ} → WritesTagged rows tag result before (Written g) after
+pub written : {rows : List Check} {tag g : LweTag} {result before after : List ℕ} → WritesTagged rows tag result before (Ok g) after
     → (refusal rows ≡ 0) × (after ≡ result) × (g ≡ tag)
-written {rows} {tag} {g} {result} {before} {after} w = go (eqb (refusal rows) 0) refl w.answered w.holds
-  where
-    go : (b : Bool) → eqb (refusal rows) 0 ≡ b → Written g ≡ pick b (Written tag) (Refused (refusal rows)) → after ≡ pick b result before
-        → (refusal rows ≡ 0) × (after ≡ result) × (g ≡ tag)
-    go true z a h = (eqb-true (refusal rows) 0 z, h, cc)
-    go false z a h = let k : ◌≡◌ {A = ℕ} 0 1 = cc in absurd (omega arith)
+written {rows} {tag} {g} w =
+    let a = answered_ok rows tag g w.answered in (a.0, w.holds ∙ rw (eq-eqb (refusal rows) 0 a.0), a.1)
 
-pub told : (rows : List Check) (x : ℕ) → refusal rows ≡ 0 → word_answer rows x ≡ Word x
-told rows x e = rw (eq-eqb (refusal rows) 0 e)
+pub told : (rows : List Check) (x : ℕ) → refusal rows ≡ 0 → answer rows x ≡ Ok x
+told rows x e = accepted rows x e
 
 -- ---- conditions that do not hold
 

@@ -13,6 +13,8 @@ use lib.Dec.{eqb}
 use lib.ListN.{length, take, drop, length-append, length-take, length-drop, get_or-append}
 use lib.Seq.{get_or-append-add, drop_at, drop-drop, ext_get_or}
 use borrow.Author.Tests.{eq-eqb}
+use Rattle.std.proofs.Common.{Result, Ok}
+use Rattle.check_order.specs.declared.refusal.Refusal.{Refusal}
 use Rattle.scheme.specs.Basis.{Basis}
 use Rattle.scheme.specs.Lwe.{row_of}
 use Rattle.scheme.specs.Switch.{Below, switched, switched_batch}
@@ -24,8 +26,6 @@ use Rattle.scheme.proofs.Switch.{batch_row}
 use Rattle.primus_decompose.specs.Answers.{basis}
 use Rattle.scheme.specs.Tally.{Switched}
 use Rattle.lwe_tag.specs.declared.LweTag.{LweTag}
-use Rattle.lwe_tag.specs.declared.LweAnswer.{LweAnswer}
-use Rattle.lwe_tag.specs.declared.LweAnswer.TheVariants.{Written}
 use Rattle.lwe_tag.specs.Answers.{tag_from}
 use Rattle.key_switch_parameters.specs.declared.LweKeySwitchingParameters.{LweKeySwitchingParameters}
 use Rattle.key_switch_parameters.specs.Answers.{q_in, n_in, m_in}
@@ -132,9 +132,9 @@ module _ (P : LweKeySwitchingParameters) (key X Y : List ℕ) where
       ∙ ap (λ k. switched_batch b (n_in P) (m_in P) key k X ++ switched_batch b (n_in P) (m_in P) key (length Y / (n_in P + 1)) Y) (sym (first_counted (n_in P) T X Y l).0)
 
   module _ {over out overX x overY y : List ℕ} {tag : LweTag} where
-    pub batch_cut : (T : ℕ) → length X ≡ T * (n_in P + 1) → length overX ≡ T * (m_in P + 1) → length overY ≡ length Y / (n_in P + 1) * (m_in P + 1) → {a c : LweAnswer}
-        → SwitchesBatch P key (X ++ Y) over (Written tag) out → SwitchesBatch P key X overX a x → SwitchesBatch P key Y overY c y
-        → (a ≡ Written (tag_from Switched)) × (c ≡ Written (tag_from Switched)) × (out ≡ x ++ y)
+    pub batch_cut : (T : ℕ) → length X ≡ T * (n_in P + 1) → length overX ≡ T * (m_in P + 1) → length overY ≡ length Y / (n_in P + 1) * (m_in P + 1) → {a c : Result LweTag Refusal}
+        → SwitchesBatch P key (X ++ Y) over (Ok tag) out → SwitchesBatch P key X overX a x → SwitchesBatch P key Y overY c y
+        → (a ≡ Ok (tag_from Switched)) × (c ≡ Ok (tag_from Switched)) × (out ≡ x ++ y)
     batch_cut T l lx ly w wx wy =
         let whole = written w.writes in
         let parts = parts_accepted T l (length over) whole.0 in
@@ -142,9 +142,9 @@ module _ (P : LweKeySwitchingParameters) (key X Y : List ℕ) where
         let second = settled_tag wy.writes (rw ly parts.1) in
         (first.0, second.0, whole.1 ∙ outputs_joined T l ∙ ap₂ ◌++◌ (sym first.1) (sym second.1))
 
-    pub batch_joined : {r : LweAnswer} → length over ≡ length overX + length overY
-        → SwitchesBatch P key X overX (Written tag) x → SwitchesBatch P key Y overY (Written tag) y → SwitchesBatch P key (X ++ Y) over r out
-        → (r ≡ Written (tag_from Switched)) × (out ≡ x ++ y)
+    pub batch_joined : {r : Result LweTag Refusal} → length over ≡ length overX + length overY
+        → SwitchesBatch P key X overX (Ok tag) x → SwitchesBatch P key Y overY (Ok tag) y → SwitchesBatch P key (X ++ Y) over r out
+        → (r ≡ Ok (tag_from Switched)) × (out ≡ x ++ y)
     batch_joined l wx wy w =
         let first = written wx.writes in
         let second = written wy.writes in
@@ -167,9 +167,9 @@ module _ (P : LweKeySwitchingParameters) (key X : List ℕ) where
       inputs-accepted P key X _ _ e key (row_of n X t) _ _ (no 9 tt) foreign (length_fit _ _ (part_length (n + 1) (length X / (n + 1)) X t x.inputs h)) (length_fit (m_in P + 1) _ refl)
       (words_fit (q_in P) _ (part_below (q_in P) (n + 1) X t x.words))
 
-  pub row_alone : {over out alone y : List ℕ} {tag : LweTag} {r : LweAnswer} → SwitchesBatch P key X over (Written tag) out → (t : ℕ) → t < length X / (n_in P + 1)
+  pub row_alone : {over out alone y : List ℕ} {tag : LweTag} {r : Result LweTag Refusal} → SwitchesBatch P key X over (Ok tag) out → (t : ℕ) → t < length X / (n_in P + 1)
       → length alone ≡ m_in P + 1 → Switches P key (row_of (n_in P) X t) alone r y
-      → (r ≡ Written (tag_from Switched)) × (y ≡ row_of (m_in P) out t)
+      → (r ≡ Ok (tag_from Switched)) × (y ≡ row_of (m_in P) out t)
   row_alone {over} w t h l one =
       let whole = written w.writes in
       let row = settled_tag one.writes (rw l (row-accepted (length over) t h whole.0)) in

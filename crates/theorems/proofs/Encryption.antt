@@ -12,6 +12,7 @@ use Prim.Native.Nat.{ℕ, ◌*◌, ◌<◌}
 use native.Mathlib.Omega.{arith}
 use lib.IntN.{ℤ, pos, ◌+ℤ◌}
 use lib.ListN.{length, get_or, take, drop}
+use Rattle.std.proofs.Common.{Ok}
 use Rattle.scheme.specs.Lwe.{Key, secret_of, words, signed, encrypted, encrypted_rows, packed, row_of, public_key, public_encrypted}
 use Rattle.scheme.specs.Checks.{refusal}
 use Rattle.scheme.proofs.Lwe.{phase_fresh, phase-packed}
@@ -21,7 +22,6 @@ use Rattle.primus_reduce.specs.declared.modulus.Modulus.{Modulus}
 use Rattle.primus_encoding.specs.declared.PlaintextEmbedding.{PlaintextEmbedding}
 use Rattle.primus_lattice.specs.declared.dimension.LweDimension.{LweDimension}
 use Rattle.lwe_tag.specs.declared.LweTag.{LweTag}
-use Rattle.lwe_tag.specs.declared.LweAnswer.TheVariants.{Written}
 use Rattle.lwe_parameters.specs.declared.parameter.LweEncryptionParameters.{LweEncryptionParameters}
 use Rattle.lwe_parameters.specs.declared.parameter.LweParameters.{LweParameters}
 use Rattle.lwe_refusals.specs.Rows.{encrypt_rows, message_rows}
@@ -50,7 +50,7 @@ module _ (P : LweEncryptionParameters) (key : Key) (a : List ℕ) (es : List ℤ
       let w = encryptable P key a es p room e in
       phase_fresh (size_of P.modulus) w.positive P.dimension.0 a (secret_of key) w.each (get_or es 0 (pos 0)) (pos p)
 
-  pub encrypt_phase : {before after : List ℕ} {tag : LweTag} → Encrypts P key a es p before (Written tag) after
+  pub encrypt_phase : {before after : List ℕ} {tag : LweTag} → Encrypts P key a es p before (Ok tag) after
       → HasPhase (size_of P.modulus) P.dimension.0 after (secret_of key) (pos p +ℤ get_or es 0 (pos 0))
   encrypt_phase {before} c = let w = written c.writes in rw w.1 (encrypt_accepted (length before) w.0)
 
@@ -63,7 +63,7 @@ module _ (P : LweParameters) (g : PlaintextEmbedding) (key : Key) (a : List ℕ)
       let w = (messageable P key a es x room e).plain in
       phase_fresh (size_of P.modulus) w.positive P.dimension.0 a (secret_of key) w.each (get_or es 0 (pos 0)) (encoded g P x)
 
-  pub message_phase : {before after : List ℕ} {tag : LweTag} → EncryptsMessage P g key a es x before (Written tag) after
+  pub message_phase : {before after : List ℕ} {tag : LweTag} → EncryptsMessage P g key a es x before (Ok tag) after
       → HasPhase (size_of P.modulus) P.dimension.0 after (secret_of key) (encoded g P x +ℤ get_or es 0 (pos 0))
   message_phase {before} c = let w = written c.writes in rw w.1 (message_accepted (length before) w.0)
 
@@ -85,7 +85,7 @@ module _ (P : LweParameters) (g : PlaintextEmbedding) (key : Key) (masks : List 
       rw (row-encrypted q n (length xs) i masks (secret_of key) (signed es) (encodings g P xs) l h)
       (phase_fresh q positive n (take n (drop (i * n) masks)) (secret_of key) (row_mask n (length xs) i masks l h) (signed es i) (encodings g P xs i))
 
-  pub batch_phase_lem : {before after : List ℕ} {tag : LweTag} → EncryptsBatch P g key masks es xs before (Written tag) after → (i : ℕ) → i < length xs
+  pub batch_phase_lem : {before after : List ℕ} {tag : LweTag} → EncryptsBatch P g key masks es xs before (Ok tag) after → (i : ℕ) → i < length xs
       → HasPhase (size_of P.modulus) P.dimension.0 (row_of P.dimension.0 after i) (secret_of key) (encodings g P xs i +ℤ signed es i)
   batch_phase_lem {before} c = let w = written c.writes in rw w.1 (batch_accepted (length before) w.0)
 
@@ -99,7 +99,7 @@ module _ (P : LweEncryptionParameters) (s a : List ℕ) (es : List ℤ) (ps : Li
       let k = packable P s a es ps room e in
       phase-packed (size_of P.modulus) k.able.positive P.dimension.0 a (words s) k.each (length ps) (signed es) (words ps) i (omega (arith, k.able.most, k.each)) h
 
-  pub packed-phase : {before after : List ℕ} {tag : LweTag} → EncryptsPacked P s a es ps before (Written tag) after → (i : ℕ) → i < length ps
+  pub packed-phase : {before after : List ℕ} {tag : LweTag} → EncryptsPacked P s a es ps before (Ok tag) after → (i : ℕ) → i < length ps
       → HasPackedPhase (size_of P.modulus) P.dimension.0 after (words s) i (words ps i +ℤ signed es i)
   packed-phase {before} c = let w = written c.writes in rw w.1 (packed-accepted (length before) w.0)
 
@@ -111,7 +111,7 @@ module _ (P : LweParameters) (g : PlaintextEmbedding) (s a : List ℕ) (es : Lis
       let k = (packable_messages P s a es xs room e).plain in
       phase-packed (size_of P.modulus) k.able.positive P.dimension.0 a (words s) k.each (length xs) (signed es) (encodings g P xs) i (omega (arith, k.able.most, k.each)) h
 
-  pub packed_message_phase : {before after : List ℕ} {tag : LweTag} → EncryptsPackedMessages P g s a es xs before (Written tag) after → (i : ℕ) → i < length xs
+  pub packed_message_phase : {before after : List ℕ} {tag : LweTag} → EncryptsPackedMessages P g s a es xs before (Ok tag) after → (i : ℕ) → i < length xs
       → HasPackedPhase (size_of P.modulus) P.dimension.0 after (words s) i (encodings g P xs i +ℤ signed es i)
   packed_message_phase {before} c = let w = written c.writes in rw w.1 (packed_message_accepted (length before) w.0)
 
@@ -135,12 +135,12 @@ module _ (d : LweDimension) (m : Modulus) (E : ℕ) (key : Key) (masks : List �
     with_key p = let w = wrote made-it.writes in rw w.1 (public_accepted (length blank) w.0 (signed fs) (signed rs) p)
 
     pub public_phase_lem : (F p : ℕ) {before after : List ℕ} {tag : LweTag}
-        → EncryptsPublic (record { dimension = d; modulus = m; error_limit = F }) pk fs rs p before (Written tag) after
+        → EncryptsPublic (record { dimension = d; modulus = m; error_limit = F }) pk fs rs p before (Ok tag) after
         → HasPhase (size_of m) d.0 after (secret_of key) (public_phase d.0 (pos p) (signed fs) (secret_of key) (signed rs) (signed es))
     public_phase_lem F p c = rw (written c.writes).1 (with_key (pos p))
 
     pub public_message_phase : (F t : ℕ) (g : PlaintextEmbedding) (x : ℕ) {before after : List ℕ} {tag : LweTag}
         → let P : LweParameters = record { dimension = d; modulus = m; plaintext_modulus = t; error_limit = F } in
-        EncryptsPublicMessage P g pk fs rs x before (Written tag) after
+        EncryptsPublicMessage P g pk fs rs x before (Ok tag) after
         → HasPhase (size_of m) d.0 after (secret_of key) (public_phase d.0 (encoded g P x) (signed fs) (secret_of key) (signed rs) (signed es))
     public_message_phase F t g x c = rw (written c.writes).1 (with_key _)

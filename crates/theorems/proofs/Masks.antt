@@ -13,6 +13,7 @@ use native.Mathlib.Omega.{arith}
 use lib.Pow.{pow_pos}
 use lib.IntN.{ℤ}
 use lib.ListN.{length}
+use Rattle.std.proofs.Common.{Ok}
 use Rattle.scheme.specs.Modulus.{Fits}
 use Rattle.scheme.specs.Basis.{Basis}
 use Rattle.scheme.specs.Lwe.{Key, secret_of, key_length, words, signed, row_of}
@@ -25,7 +26,6 @@ use Rattle.scheme.proofs.Same.{demand_3}
 use Rattle.primus_reduce.specs.Ring.{meant}
 use Rattle.primus_decompose.specs.Answers.{basis}
 use Rattle.scheme.specs.Tally.{Switched}
-use Rattle.lwe_tag.specs.declared.LweAnswer.TheVariants.{Written}
 use Rattle.lwe_tag.specs.Answers.{tag_from}
 use Rattle.lwe_tag.proofs.Writes as W
 use Rattle.key_switch_parameters.specs.declared.LweKeySwitchingParameters.{LweKeySwitchingParameters}
@@ -93,7 +93,7 @@ module _ (P : LweKeySwitchingParameters) (word : Fits 32 (meant P.basis.modulus)
       demand_3 b (basis-accepted P word _ ex) (n_in P) (m_in P) s s' e (omega (arith, (judged P _ ex).output_some)) (count X) X t (count Y) Y u x.inputs y.inputs x.words y.words ht hu
 
   module _ (E : ℕ) (key : Key) (s' : List ℕ) (errors : List ℤ) {one over k keyX X overX x keyY Y overY y : List ℕ}
-      (generates : Generates P E key s' one errors over 0 k) (switches_x : SwitchesBatch P keyX X overX (Written (tag_from Switched)) x) (switches_y : SwitchesBatch P keyY Y overY (Written (tag_from Switched)) y) where
+      (generates : Generates P E key s' one errors over 0 k) (switches_x : SwitchesBatch P keyX X overX (Ok (tag_from Switched)) x) (switches_y : SwitchesBatch P keyY Y overY (Ok (tag_from Switched)) y) where
     abbrev made : List ℕ → List ℕ
     made masks = generated b (n_in P) (m_in P) (secret_of key) (words s') (signed errors) masks
 

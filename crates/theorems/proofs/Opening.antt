@@ -15,6 +15,8 @@ use lib.Dec.{eqb, ltb}
 use lib.IntN.{ℤ, pos, nat_abs, ◌+ℤ◌}
 use lib.ListN.{length, get_or, take, drop}
 use borrow.Author.Tests.{eq-eqb, ne_eqb, ltb-true}
+use Rattle.std.proofs.Common.{Result, Ok}
+use Rattle.check_order.specs.declared.refusal.Refusal.{Refusal}
 use Rattle.scheme.specs.Numbers.{pick, residue, tabulate}
 use Rattle.scheme.specs.Lwe.{Key, secret_of, signed, encrypted, encrypted_rows, phase_of, row_of}
 use Rattle.scheme.specs.Codec.{decode}
@@ -30,14 +32,11 @@ use Rattle.scheme.proofs.Public.{row_mask, row-encrypted, encrypted-row}
 use Rattle.scheme.proofs.Switch.{encrypted-length, encrypted-below}
 use Rattle.primus_reduce.specs.Ring.{size_of}
 use Rattle.primus_reduce.specs.declared.modulus.Modulus.{Modulus}
-use Rattle.checks.specs.declared.WordAnswer.{WordAnswer}
-use Rattle.checks.specs.declared.WordAnswer.TheVariants.{Word}
 use Rattle.primus_encoding.specs.declared.PlaintextEmbedding.{PlaintextEmbedding}
 use Rattle.primus_encoding.specs.Answers.{meant_embedding}
 use Rattle.scheme.specs.Tally.{Fresh, Present, good}
 use Rattle.lwe_tag.specs.declared.LweTag.{LweTag}
-use Rattle.lwe_tag.specs.declared.LweAnswer.TheVariants.{Written}
-use Rattle.lwe_tag.specs.declared.MarkAnswer.TheVariants as M
+use Rattle.check_order.proofs.Answers.{answered_ok}
 use Rattle.lwe_tag.specs.Answers.{tally_of, tag_from, no_tally, mark_rows, mark_answer}
 use Rattle.lwe_parameters.specs.declared.parameter.LweEncryptionParameters.{LweEncryptionParameters}
 use Rattle.lwe_parameters.specs.declared.parameter.LweParameters.{LweParameters}
@@ -54,22 +53,14 @@ use Rattle.theorems.proofs.Encryption.{encrypt_phase, batch_masks}
 
 -- what is_good answers of a tag that an encryption gave: where it is true document 01's inequality holds
 pub marked_good : (E : ℕ) (m : Modulus) (t : ℕ) {tag : LweTag} → tag ≡ tag_from (Fresh E) → error_limit_fails (size_of m) E ≡ false
-    → mark_answer tag m t ≡ M.Mark true → 2 * t * E + t < size_of m
-marked_good E m t {tag} same limit e = ltb-true (2 * t * E + t) (size_of m) (go (eqb (refusal (mark_rows (tag_from (Fresh E)) m t)) 0) whole)
+    → mark_answer tag m t ≡ Ok true → 2 * t * E + t < size_of m
+marked_good E m t {tag} same limit e =
+    let marked : true ≡ good (size_of m) t (tally_of tag) = (answered_ok (mark_rows tag m t) _ true (sym e)).1 in
+    ltb-true (2 * t * E + t) (size_of m) (sym (marked ∙ ap (λ (g : LweTag). good (size_of m) t (tally_of g)) same ∙ ap (good (size_of m) t) present))
   where
     -- E is no number that stands for no tally
     present : tally_of (tag_from (Fresh E)) ≡ Present E
     present = rw (ne_eqb E no_tally (λ z. omega (arith, (error_limit_ok (size_of m) E limit).0)))
-
-    whole : pick (eqb (refusal (mark_rows (tag_from (Fresh E)) m t)) 0) (M.Mark (ltb (2 * t * E + t) (size_of m))) (M.Refused (refusal (mark_rows (tag_from (Fresh E)) m t))) ≡ M.Mark true
-    whole =
-        sym (ap (λ x. pick (eqb (refusal (mark_rows (tag_from (Fresh E)) m t)) 0) (M.Mark (good (size_of m) t x)) (M.Refused (refusal (mark_rows (tag_from (Fresh E)) m t)))) present)
-        ∙ sym (ap (λ (g : LweTag). mark_answer g m t) same)
-        ∙ e
-
-    go : (b : Bool) → pick b (M.Mark (ltb (2 * t * E + t) (size_of m))) (M.Refused (refusal (mark_rows (tag_from (Fresh E)) m t))) ≡ M.Mark true → ltb (2 * t * E + t) (size_of m) ≡ true
-    go true e = cc
-    go false e = let k : ◌≡◌ {A = ℕ} 0 1 = cc in absurd (omega arith)
 
 -- ---- one ciphertext
 
@@ -100,13 +91,13 @@ module _ (P : LweEncryptionParameters) (key : Key) (a : List ℕ) (es : List ℤ
       let f = fresh_fits q P.dimension.0 a (secret_of key) (get_or es 0 (pos 0)) (pos p) w.positive w.each masked in
       rw (no 2 tt, no 6 tt, no 9 tt, f.0, keyed, f.1)
 
-  pub phase-answered : {before after : List ℕ} {tag : LweTag} {answer : WordAnswer} → Encrypts P key a es p before (Written tag) after → TakesPhase (phases_of P) key after answer
-      → answer ≡ Word (residue (pos p +ℤ get_or es 0 (pos 0)) (size_of P.modulus))
+  pub phase-answered : {before after : List ℕ} {tag : LweTag} {answer : Result ℕ Refusal} → Encrypts P key a es p before (Ok tag) after → TakesPhase (phases_of P) key after answer
+      → answer ≡ Ok (residue (pos p +ℤ get_or es 0 (pos 0)) (size_of P.modulus))
   phase-answered {before} {after} c d =
       let w = written c.writes in
       d.is
       ∙ told (phase_rows (phases_of P) key after) _ (rw w.1 (phase-accepted (length before) w.0))
-      ∙ ap Word (phase-word (size_of P.modulus) P.dimension.0 after (secret_of key) _ (encryptable P key a es p (length before) w.0).positive (encrypt_phase P key a es p c))
+      ∙ ap Ok (phase-word (size_of P.modulus) P.dimension.0 after (secret_of key) _ (encryptable P key a es p (length before) w.0).positive (encrypt_phase P key a es p c))
 
 module _ (P : LweParameters) (g : PlaintextEmbedding) (key : Key) (a : List ℕ) (es : List ℤ) (x : ℕ) where
   abbrev ciphertext_of : List ℕ
@@ -138,16 +129,16 @@ module _ (P : LweParameters) (g : PlaintextEmbedding) (key : Key) (a : List ℕ)
       (get_or es 0 (pos 0)) (message_ok _ x k.message) h (within room e)
 
   pub opens : 2 * P.plaintext_modulus * P.error_limit + P.plaintext_modulus < size_of P.modulus
-      → {before after : List ℕ} {tag : LweTag} {answer : WordAnswer} → EncryptsMessage P g key a es x before (Written tag) after → Decrypts (decryption_of P) key after answer → answer ≡ Word x
+      → {before after : List ℕ} {tag : LweTag} {answer : Result ℕ Refusal} → EncryptsMessage P g key a es x before (Ok tag) after → Decrypts (decryption_of P) key after answer → answer ≡ Ok x
   opens h {before} {after} c d =
       let w = written c.writes in
       d.is
       ∙ told (decrypt_rows (decryption_of P) key after) _ (rw w.1 (decrypt_accepted (length before) w.0))
-      ∙ ap Word (rw w.1 (decoded-accepted (length before) w.0 h))
+      ∙ ap Ok (rw w.1 (decoded-accepted (length before) w.0 h))
 
   -- "written, marked good, opened"
-  pub opens_marked : {before after : List ℕ} {tag : LweTag} {answer : WordAnswer} → EncryptsMessage P g key a es x before (Written tag) after
-      → mark_answer tag P.modulus P.plaintext_modulus ≡ M.Mark true → Decrypts (decryption_of P) key after answer → answer ≡ Word x
+  pub opens_marked : {before after : List ℕ} {tag : LweTag} {answer : Result ℕ Refusal} → EncryptsMessage P g key a es x before (Ok tag) after
+      → mark_answer tag P.modulus P.plaintext_modulus ≡ Ok true → Decrypts (decryption_of P) key after answer → answer ≡ Ok x
   opens_marked {before} c good d =
       let w = written c.writes in
       opens (marked_good P.error_limit P.modulus P.plaintext_modulus w.2 (passed (message_rows P key a es x (length before)) w.0 13 tt) good) c d
@@ -197,17 +188,17 @@ module _ (P : LweParameters) (g : PlaintextEmbedding) (key : Key) (masks : List 
       rw (no 2 tt, no 6 tt, no 7 tt, no 8 tt, no 9 tt, ten, (neither (key_fails q key) (words_fail q masks) (no 14 tt)).0, words)
 
   pub opens_row : 2 * P.plaintext_modulus * P.error_limit + P.plaintext_modulus < size_of P.modulus
-      → {before after : List ℕ} {tag : LweTag} {answer : WordAnswer} → EncryptsBatch P g key masks es xs before (Written tag) after → (i : ℕ) → i < length xs
-      → Decrypts (decryption_of P) key (row_of P.dimension.0 after i) answer → answer ≡ Word (get_or xs i 0)
+      → {before after : List ℕ} {tag : LweTag} {answer : Result ℕ Refusal} → EncryptsBatch P g key masks es xs before (Ok tag) after → (i : ℕ) → i < length xs
+      → Decrypts (decryption_of P) key (row_of P.dimension.0 after i) answer → answer ≡ Ok (get_or xs i 0)
   opens_row h {before} {after} c i k d =
       let w = written c.writes in
       d.is
       ∙ told (decrypt_rows (decryption_of P) key (row_of P.dimension.0 after i)) _ (rw w.1 (row-accepted (length before) w.0 i k))
-      ∙ ap Word (rw w.1 (row-decoded (length before) w.0 h i k))
+      ∙ ap Ok (rw w.1 (row-decoded (length before) w.0 h i k))
 
-  pub opens_row_marked : {before after : List ℕ} {tag : LweTag} {answer : WordAnswer} → EncryptsBatch P g key masks es xs before (Written tag) after
-      → mark_answer tag P.modulus P.plaintext_modulus ≡ M.Mark true → (i : ℕ) → i < length xs
-      → Decrypts (decryption_of P) key (row_of P.dimension.0 after i) answer → answer ≡ Word (get_or xs i 0)
+  pub opens_row_marked : {before after : List ℕ} {tag : LweTag} {answer : Result ℕ Refusal} → EncryptsBatch P g key masks es xs before (Ok tag) after
+      → mark_answer tag P.modulus P.plaintext_modulus ≡ Ok true → (i : ℕ) → i < length xs
+      → Decrypts (decryption_of P) key (row_of P.dimension.0 after i) answer → answer ≡ Ok (get_or xs i 0)
   opens_row_marked {before} c good =
       let w = written c.writes in
       opens_row (marked_good P.error_limit P.modulus P.plaintext_modulus w.2 (passed (encrypt_batch_rows P key masks es xs (length before)) w.0 13 tt) good) c
@@ -230,7 +221,7 @@ module _ (P : LweParameters) (g : PlaintextEmbedding) (key : Key) (masks : List 
       rw (no 2 tt, no 6 tt, no 7 tt, no 8 tt, no 9 tt, ten, eleven, (neither (key_fails q key) (words_fail q masks) (no 14 tt)).0, words_fit q ciphertexts below)
 
   pub opens_batch : 2 * P.plaintext_modulus * P.error_limit + P.plaintext_modulus < size_of P.modulus
-      → {before after blank out : List ℕ} {tag : LweTag} {r : ℕ} → EncryptsBatch P g key masks es xs before (Written tag) after → length blank ≡ length xs
+      → {before after blank out : List ℕ} {tag : LweTag} {r : ℕ} → EncryptsBatch P g key masks es xs before (Ok tag) after → length blank ≡ length xs
       → DecryptsBatch (decryption_of P) key after blank r out → (r ≡ 0) × (out ≡ xs)
   opens_batch h {before} {after} {blank} c l d =
       let w = written c.writes in
@@ -245,8 +236,8 @@ module _ (P : LweParameters) (g : PlaintextEmbedding) (key : Key) (masks : List 
             ∙ sym (is-tabulate (length xs) (λ i. get_or xs i 0) xs refl (λ i k. refl)),
       )
 
-  pub opens_batch_marked : {before after blank out : List ℕ} {tag : LweTag} {r : ℕ} → EncryptsBatch P g key masks es xs before (Written tag) after
-      → mark_answer tag P.modulus P.plaintext_modulus ≡ M.Mark true → length blank ≡ length xs
+  pub opens_batch_marked : {before after blank out : List ℕ} {tag : LweTag} {r : ℕ} → EncryptsBatch P g key masks es xs before (Ok tag) after
+      → mark_answer tag P.modulus P.plaintext_modulus ≡ Ok true → length blank ≡ length xs
       → DecryptsBatch (decryption_of P) key after blank r out → (r ≡ 0) × (out ≡ xs)
   opens_batch_marked {before} c good =
       let w = written c.writes in

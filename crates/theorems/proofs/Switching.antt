@@ -10,6 +10,7 @@ use Prim.Native.Nat.{ℕ, ◌+◌, ◌*◌, ◌/◌, ◌<◌, ◌≤◌}
 use native.Mathlib.Omega.{arith}
 use lib.IntN.{ℤ, pos, nat_abs, ◌-ℤ◌}
 use lib.ListN.{length, get_or}
+use Rattle.std.proofs.Common.{Ok}
 use Rattle.scheme.specs.Modulus.{Fits}
 use Rattle.scheme.specs.Numbers.{Cong}
 use Rattle.scheme.specs.Basis.{Basis, Accepted}
@@ -26,7 +27,6 @@ use Rattle.primus_reduce.specs.Ring.{meant}
 use Rattle.primus_decompose.specs.Answers.{basis}
 use Rattle.gadget_constants.proofs.Sound.{sound-basis}
 use Rattle.lwe_tag.specs.declared.LweTag.{LweTag}
-use Rattle.lwe_tag.specs.declared.LweAnswer.TheVariants.{Written}
 use Rattle.key_switch_parameters.specs.declared.LweKeySwitchingParameters.{LweKeySwitchingParameters}
 use Rattle.key_switch_parameters.specs.Answers.{q_in, n_in, m_in, levels_in, parameter_rows}
 use Rattle.key_switch_entries.specs.Answers.{generate_rows}
@@ -93,14 +93,14 @@ module _ (P : LweKeySwitchingParameters) (word : Fits 32 (meant P.basis.modulus)
       (switched-accepted room e (row_of (n_in P) X t) (λ i k. row_below (q_in P) (n_in P) (length X / (n_in P + 1)) X t h x.inputs x.words i (omega arith)))
 
   module _ {blank k : List ℕ} (c : Generates P E key s' masks errors blank 0 k) where
-    pub switch_phase : {x before after : List ℕ} {tag : LweTag} → Switches P k x before (Written tag) after → Switched (basis P.basis) (n_in P) (m_in P) key s' errors E x after
+    pub switch_phase : {x before after : List ℕ} {tag : LweTag} → Switches P k x before (Ok tag) after → Switched (basis P.basis) (n_in P) (m_in P) key s' errors E x after
     switch_phase {x} {before} d =
         let g = wrote c.writes in
         let w = written d.writes in
         let o = one_passed P k x (length before) w.0 in
         rw (w.1, g.1) (switched-accepted (length blank) g.0 x (λ i h. o.1.words i (omega (arith, o.0))))
 
-    pub batch_switch_phase : {X before after : List ℕ} {tag : LweTag} → SwitchesBatch P k X before (Written tag) after → (t : ℕ) → t < length X / (n_in P + 1)
+    pub batch_switch_phase : {X before after : List ℕ} {tag : LweTag} → SwitchesBatch P k X before (Ok tag) after → (t : ℕ) → t < length X / (n_in P + 1)
         → Switched (basis P.basis) (n_in P) (m_in P) key s' errors E (row_of (n_in P) X t) (row_of (m_in P) after t)
     batch_switch_phase {X} {before} d =
         let g = wrote c.writes in

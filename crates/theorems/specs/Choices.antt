@@ -1,8 +1,7 @@
 -- Demand 3 over the calls.
-use Rattle.std.specs.Prelude.{◌≡◌, List, ℕ, ◌+◌, ◌*◌, ◌<◌, ℤ, get_or}
+use Rattle.std.specs.Prelude.{Ok, ◌≡◌, List, ℕ, ◌+◌, ◌*◌, ◌<◌, ℤ, get_or}
 use Rattle.scheme.specs.Lwe.{Key}
 use Rattle.scheme.specs.Tally.{Switched}
-use Rattle.lwe_tag.specs.declared.LweAnswer.TheVariants.{Written}
 use Rattle.lwe_tag.specs.Answers.{tag_from}
 use Rattle.key_switch_parameters.specs.declared.LweKeySwitchingParameters.{LweKeySwitchingParameters}
 use Rattle.key_switch_parameters.specs.Answers.{m_in}
@@ -15,7 +14,7 @@ abbrev pub EqualOutputs : LweKeySwitchingParameters → ℕ → Key → List ℕ
     → List ℕ → ℕ → Type 0
 EqualOutputs P E key s' errors over X overX t Y overY u =
     (masks k x y : List ℕ) → Generates P E key s' masks errors over 0 k
-    → SwitchesBatch P k X overX (Written (tag_from Switched)) x → SwitchesBatch P k Y overY (Written (tag_from Switched)) y
+    → SwitchesBatch P k X overX (Ok (tag_from Switched)) x → SwitchesBatch P k Y overY (Ok (tag_from Switched)) y
     → (c : ℕ) → c < m_in P + 1 → get_or x (t * (m_in P + 1) + c) 0 ≡ get_or y (u * (m_in P + 1) + c) 0
 
 -- what the calls write with these masks: a key, and the outputs for X and for Y
@@ -25,5 +24,5 @@ pub record Choice (P : LweKeySwitchingParameters) (E : ℕ) (key : Key) (s' : Li
   pub x : List ℕ
   pub y : List ℕ
   pub generates : Generates P E key s' masks errors over 0 k
-  pub switches_x : SwitchesBatch P k X overX (Written (tag_from Switched)) x
-  pub switches_y : SwitchesBatch P k Y overY (Written (tag_from Switched)) y
+  pub switches_x : SwitchesBatch P k X overX (Ok (tag_from Switched)) x
+  pub switches_y : SwitchesBatch P k Y overY (Ok (tag_from Switched)) y
