@@ -1,47 +1,36 @@
--- A word as the signed number of the same bits: from 2^31 on it is b = 2^32 less.
+-- Words past the end, words as signed numbers, and a buffer that is filled word by word.
 -- Assumes nothing.
-use mathlib.Core.Path.{◌≡◌, ap, ◌∙◌}
-use Prim.Native.Nat.{ℕ, ◌^◌, ◌≤◌, ◌<◌}
-use native.Mathlib.Omega.{arith}
-use lib.IntN.{ℤ, pos, ◌-ℤ◌}
-use lib.Signed.{mag}
-use mir.Syntax.{w32, w64}
-use mir.Val.{SFits, to_z, of_z}
-use mir.Facts.{to_z_pos, to_z-of_z, sfits_widen}
-use borrow.Author.Tests.{lt-ltb, le-ltb}
-use Rattle.scheme.proofs.Integers.{◌⊖◌, ⊖-ind, ⊖-eq, diff}
+use Prim.Native.Nat.{min}
+use Rattle.std.proofs.Common.{◌≡◌, ◌+◌, ◌*◌, ◌-◌, ◌^◌, ◌≤◌, ◌<◌, ℕ, List, length, get_or, arith}
+use Rattle.std.proofs.Math.ListN.{get_or-eq_default}
+use Rattle.std.proofs.lemmas.Grind.{common_steps}
+use Rattle.std.specs.Int.{w32, cast_signed}
+use Rattle.scheme.specs.Numbers.{tabulate}
+use Rattle.scheme.proofs.Lists.{is-tabulate}
+use Rattle.little_endian.specs.Bytes.{word32, word64}
 use Rattle.saved.specs.Layout.{signed_word}
 
-difference : (a b : ℕ) → pos a -ℤ pos b ≡ a ⊖ b
-difference a b = simp diff (⊖-eq _ _ _ _ (omega arith))
+past32 : (s : List ℕ) (i : ℕ) → length s ≤ i → word32 s i ≡ 0
+unfolding word32
+past32 s i h = grind (arith, common_steps, get_or-eq_default s 0 {n = i})
 
-module _ (w b : ℕ) (h : 2 ^ 31 ≤ w) (k : w < b) (l : b ≤ 2 ^ 32) where
-  wide : to_z w64 w -ℤ pos b ≡ pos w -ℤ pos b
-  wide = ap (λ z. z -ℤ pos b) (to_z_pos w64 {n = w} (omega arith))
+past64 : (s : List ℕ) (i : ℕ) → length s ≤ i → word64 s i ≡ 0
+unfolding word64
+past64 s i h = grind (arith, past32 s i h, past32 s (i + 4))
 
-  pub less-fits : SFits w32 (pos w -ℤ pos b)
-  less-fits = rw (difference w b) (record { sfits = ⊖-ind (λ z. mag z < 2 ^ 31) w b (λ n e. omega arith) (λ n e. omega arith) })
+-- the place of item i, of `size` bytes, as the code computes it
+pub word_capped : (s : List ℕ) (i : ℕ) → length s < 2 ^ 63 → word32 s (min (min (i * 4) (2 ^ 64 - 1) + 64) (2 ^ 64 - 1)) ≡ word32 s (64 + 4 * i)
+word_capped s i h =
+    let past = past32 s (min (min (i * 4) (2 ^ 64 - 1) + 64) (2 ^ 64 - 1)) in
+    grind (arith, common_steps, past, past32 s (64 + 4 * i))
 
-  pub wide_fits : SFits w64 (to_z w64 w -ℤ pos b)
-  wide_fits = rw wide (sfits_widen tt less-fits)
+pub number_capped : (s : List ℕ) (base i : ℕ) → length s < 2 ^ 63 → word64 s (min (min (i * 8) (2 ^ 64 - 1) + base) (2 ^ 64 - 1)) ≡ word64 s (base + 8 * i)
+number_capped s base i h =
+    let past = past64 s (min (min (i * 8) (2 ^ 64 - 1) + base) (2 ^ 64 - 1)) in
+    grind (arith, common_steps, past, past64 s (base + 8 * i))
 
-  pub back : to_z w64 (of_z w64 (to_z w64 w -ℤ pos b)) ≡ pos w -ℤ pos b
-  back = to_z-of_z wide_fits ∙ wide
+pub same_bits : (w : ℕ) → w < 2 ^ 32 → cast_signed w32 w ≡ signed_word w
+same_bits w h = grind (arith, common_steps)
 
-  pub cut_fits : SFits w32 (to_z w64 (of_z w64 (to_z w64 w -ℤ pos b)))
-  cut_fits = rw back less-fits
-
-  pub less-is : to_z w32 (of_z w32 (to_z w64 (of_z w64 (to_z w64 w -ℤ pos b)))) ≡ pos w -ℤ pos b
-  less-is = ap (λ z. to_z w32 (of_z w32 z)) back ∙ to_z-of_z less-fits
-
-pub low-is : (r w : ℕ) → r ≡ w → r < 2 ^ 31 → to_z w32 r ≡ signed_word w
-low-is r w e h = to_z_pos w32 {n = r} h ∙ low
-  where
-    low : pos r ≡ signed_word w
-    low = rw (← e, lt-ltb r (2 ^ 31) h)
-
-pub high_is : (r w : ℕ) (z : ℤ) → r ≡ w → 2 ^ 31 ≤ r → r < 2 ^ 32 → z ≡ pos r -ℤ pos (2 ^ 32) → to_z w32 (of_z w32 z) ≡ signed_word w
-high_is r w z e h k f = ap (λ z. to_z w32 (of_z w32 z)) f ∙ to_z-of_z (less-fits r (2 ^ 32) h k (omega arith)) ∙ high
-  where
-    high : pos r -ℤ pos (2 ^ 32) ≡ signed_word w
-    high = rw (← e, le-ltb r (2 ^ 31) h)
+pub tabled : (n : ℕ) (f : ℕ → ℕ) (xs : List ℕ) → length xs ≡ n → ((i : ℕ) → i < n → get_or xs i 0 ≡ f i) → xs ≡ tabulate n f
+tabled = is-tabulate
