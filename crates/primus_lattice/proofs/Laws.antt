@@ -1,26 +1,19 @@
 -- Laws of the leaves and of the calls.
 -- Assumes nothing.
-use Rattle.std.proofs.Common.{◌≡◌, ℕ, ◌+◌, ◌-◌, ◌%◌, ◌<◌, ◌≤◌, false, List, length, sym, ◌∙◌, subst, mod-eq_of_lt, arith}
+use Rattle.std.proofs.Common.{◌≡◌, ℕ, ◌+◌, false, List, length, Result, sym, ◌∙◌, subst}
 use Rattle.scheme.specs.Tally.{add_tally, tally_fails}
 use Rattle.scheme.specs.Checks.{refusal, length_fails, words_fail}
 use Rattle.scheme.proofs.Checks.{length_ok}
 use Rattle.scheme.proofs.Order.{passed, neither}
 use Rattle.primus_reduce.specs.Ring.{size_of}
-use Rattle.primus_reduce.proofs.Laws.{mod-is}
 use Rattle.primus_reduce.specs.declared.modulus.Modulus.{Modulus}
 use Rattle.primus_lattice.specs.declared.dimension.LweDimension.{LweDimension}
 use Rattle.lwe_tag.specs.declared.LweTag.{LweTag}
-use Rattle.lwe_tag.specs.declared.LweAnswer.{LweAnswer}
+use Rattle.check_order.specs.declared.refusal.Refusal.{Refusal}
 use Rattle.lwe_tag.specs.Answers.{cap, tally_of}
 use Rattle.primus_lattice.specs.Answers.{add_rows, Adds}
 
 -- ---- words
-
-pub add_small : (q a b : ℕ) → b < q → a < q - b → a + b ≡ (a + b) % q
-add_small q a b l h = sym (mod-eq_of_lt (omega arith))
-
-pub add_large : (q a b : ℕ) → a < q → b < q → q - b ≤ a → a - (q - b) ≡ (a + b) % q
-add_large q a b k l h = sym (mod-is q 1 (a - (q - b)) (a + b) (omega arith) (omega arith))
 
 -- ---- what the checks of a sum leave
 
@@ -30,10 +23,10 @@ pub record Addable (q : ℕ) (x : List ℕ) (g : LweTag) (y : List ℕ) (h : Lwe
   pub second : words_fail q y ≡ false
   pub sums : tally_fails cap (add_tally (tally_of g) (tally_of h)) ≡ false
 
-pub addable : (m : Modulus) (n : ℕ) (x : List ℕ) (g : LweTag) (y : List ℕ) (h : LweTag) → refusal (add_rows m n x g y h) ≡ 0
+pub addable : (m : Modulus) (n : ℕ) (x : List ℕ) (g : LweTag) (y : List ℕ) (h : LweTag) → 0 ≡ refusal (add_rows m n x g y h)
     → Addable (size_of m) x g y h
 addable m n x g y h e =
-    let no = passed (add_rows m n x g y h) e in
+    let no = passed (add_rows m n x g y h) (sym e) in
     let lengths = neither (length_fails (length x) (n + 1)) (length_fails (length y) (n + 1)) (no 10 tt) in
     let words = neither (words_fail (size_of m) x) (words_fail (size_of m) y) (no 14 tt) in
     let given = neither (tally_fails cap (tally_of g)) _ (no 17 tt) in
@@ -45,7 +38,7 @@ addable m n x g y h e =
     }
 
 -- the promises, of other names of modulus and dimension
-pub adds_of : {m k : Modulus} → m ≡ k → {n o : LweDimension} → n ≡ o → {x y after : List ℕ} {g h : LweTag} {answer : LweAnswer}
+pub adds_of : {m k : Modulus} → m ≡ k → {n o : LweDimension} → n ≡ o → {x y after : List ℕ} {g h : LweTag} {answer : Result LweTag Refusal}
     → Adds m n x g y h answer after → Adds k o x g y h answer after
 adds_of {m} {k} em {n} {o} en {x} {y} {after} {g} {h} {answer} p =
     subst (λ (z : LweDimension). Adds k z x g y h answer after) en

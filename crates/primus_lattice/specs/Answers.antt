@@ -1,30 +1,27 @@
--- The answers of the calls: the value that a definition gives, or the first number that applies.
-use Rattle.std.specs.Prelude.{ℕ, ◌+◌, List, [], ◌∷◌, length, ◌==◌}
-use Rattle.scheme.specs.Numbers.{pick}
+-- The answers of the calls: the value that a definition gives, or the first refusal that applies.
+use Rattle.std.specs.Prelude.{ℕ, ◌+◌, List, [], ◌∷◌, length, Result}
 use Rattle.scheme.specs.Tally.{add_tally}
 use Rattle.scheme.specs.Lwe.{add_words}
-use Rattle.scheme.specs.Checks.{Check, row, refusal}
+use Rattle.scheme.specs.Checks.{Check, row}
 use Rattle.scheme.specs.Checks.{modulus_fails, dimension_fails, length_fails, words_fail}
 use Rattle.primus_reduce.specs.Ring.{meant, size_of}
 use Rattle.primus_reduce.specs.declared.modulus.Modulus.{Modulus}
+use Rattle.check_order.specs.declared.refusal.Refusal.{Refusal}
+use Rattle.check_order.specs.Answer.{answer}
 use Rattle.primus_lattice.specs.declared.dimension.LweDimension.{LweDimension}
-use Rattle.primus_lattice.specs.declared.dimension.LweDimensionAnswer.{LweDimensionAnswer}
-use Rattle.primus_lattice.specs.declared.dimension.LweDimensionAnswer.TheVariants as D
 use Rattle.lwe_tag.specs.declared.LweTag.{LweTag}
-use Rattle.lwe_tag.specs.declared.LweAnswer.{LweAnswer}
 use Rattle.lwe_tag.specs.Answers.{tally_of, tag_of, tag_rows, WritesTagged}
 
 -- a dimension judges 6
 abbrev pub dimension_rows : ℕ → List Check
 dimension_rows n = row (dimension_fails n) 6 ∷ []
 
-abbrev pub dimension_answer : ℕ → LweDimensionAnswer
-dimension_answer n =
-    pick (refusal (dimension_rows n) == 0) (D.Accepted (record { 0 = n })) (D.Refused (refusal (dimension_rows n)))
-
 -- a dimension of any number
 abbrev pub given : ℕ → LweDimension
 given n = record { 0 = n }
+
+abbrev pub dimension_answer : ℕ → Result LweDimension Refusal
+dimension_answer n = answer (dimension_rows n) (given n)
 
 -- a sum of x with the tag g and y with the tag h judges 2, 6, 10, 14 and 17
 abbrev pub add_rows : Modulus → ℕ → List ℕ → LweTag → List ℕ → LweTag → List Check
@@ -39,7 +36,7 @@ add_rows m n x g y h =
 
 -- "Adding two ciphertexts adds their words modulo q and their tallies."
 pub record Adds (m : Modulus) (n : LweDimension) (x : List ℕ) (g : LweTag) (y : List ℕ) (h : LweTag)
-    (answer : LweAnswer) (after : List ℕ) : Type 0 where
+    (given : Result LweTag Refusal) (after : List ℕ) : Type 0 where
   pub writes :
       WritesTagged (add_rows m n.0 x g y h) (tag_of (add_tally (tally_of g) (tally_of h))) (add_words (size_of m) x y)
-      x answer after
+      x given after

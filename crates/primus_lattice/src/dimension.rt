@@ -3,18 +3,11 @@ ghost use Rattle.std.specs.Prelude.{◌≡◌, ◌+◌, ◌||◌};
 ghost use Rattle.scheme.specs.Checks.{dimension_fails, length_fails};
 ghost use Rattle.primus_lattice.specs.Answers.{dimension_answer, given};
 
-use check_order::Sizes;
+use check_order::Refusal;
 
 // n, the number of mask words.
 #[derive(Clone, Copy)]
 pub struct LweDimension(usize);
-
-// `Refused` holds 6: a dimension is 0 or above 2,048.
-#[derive(Clone, Copy)]
-pub enum LweDimensionAnswer {
-    Accepted(LweDimension),
-    Refused(u32),
-}
 
 // 6: outside the limits of the kind.
 fn dimension_refused(dimension: usize) -> bool
@@ -29,16 +22,14 @@ impl LweDimension {
     pub const MAX: usize = 2048;
 
     // The dimension n. Refuses by 6.
-    pub fn try_new(dimension: usize) -> LweDimensionAnswer
+    #[tactic(auto, unfolding(scheme::specs::Checks::refusal, scheme::specs::Checks::first_in, check_order::specs::Answer::answer, check_order::specs::Answer::refusal_for))]
+    pub fn try_new(dimension: usize) -> Result<LweDimension, Refusal>
         ensures { result ≡ dimension_answer dimension }
     {
-        let mut s = Sizes::NONE;
-        s.dimension = dimension_refused(dimension);
-        let r = s.first();
-        if r != 0 {
-            return LweDimensionAnswer::Refused(r);
+        if dimension_refused(dimension) {
+            return Err(Refusal::Dimension);
         }
-        LweDimensionAnswer::Accepted(LweDimension(dimension))
+        Ok(LweDimension(dimension))
     }
 
     // Any number, as a caller gives it: the calls judge it by 6, in its place in the order.

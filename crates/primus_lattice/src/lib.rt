@@ -4,6 +4,6 @@
 mod dimension;
 mod single_message;
 
-pub use dimension::{LweDimension, LweDimensionAnswer};
-pub use lwe_tag::{LweAnswer, LweTag, MarkAnswer, Tally};
+pub use dimension::LweDimension;
+pub use lwe_tag::LweTag;
 pub use single_message::add_assign;

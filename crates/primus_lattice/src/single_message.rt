@@ -3,22 +3,22 @@ ghost use Rattle.std.specs.Prelude.{◌≡◌, ◌+◌, ◌%◌, ◌^◌, ◌<�
 ghost use Rattle.scheme.specs.Lwe.{add_words};
 ghost use Rattle.scheme.specs.Checks.{refusal, words_fail};
 ghost use Rattle.primus_reduce.specs.Ring.{size_of};
+ghost use Rattle.check_order.specs.Answer.{code_of};
 ghost use Rattle.primus_lattice.specs.Answers.{add_rows, Adds};
 
 use crate::dimension::LweDimension;
-use check_order::{Sizes, Values};
-use lwe_tag::{LweAnswer, LweTag};
+use check_order::{Refusal, Sizes, Values};
+use lwe_tag::LweTag;
 use primus_reduce::Modulus;
 
 // x + y modulo 2^32. Nothing is judged in the loop, so that it vectorizes.
+#[tactic(auto, using(scheme::proofs::InPlace::filled_start, scheme::proofs::InPlace::filled_end, scheme::proofs::InPlace::length_zip))]
 fn add_native(x: &mut [u32], y: &[u32])
     requires { length x.old ≡ length y.now }
     ensures { x.new ≡ add_words (2 ^ 32) x.old y.now }
 {
-    let mut i = 0;
-    while i < x.len() {
-        x[i] = std::num::wrapping_add_u32(x[i], y[i]);
-        i += 1;
+    for (i, word) in x.iter_mut().enumerate() {
+        *word = word.wrapping_add(y[i]);
     }
 }
 
@@ -32,14 +32,13 @@ fn add_below(a: u32, b: u32, q: u32) -> u32
 }
 
 // x + y modulo q, of words below q.
+#[tactic(auto, using(scheme::proofs::InPlace::filled_start, scheme::proofs::InPlace::filled_end, scheme::proofs::InPlace::length_zip))]
 fn add_explicit(x: &mut [u32], y: &[u32], q: u32)
     requires { (length x.old ≡ length y.now) × (words_fail q x.old ≡ false) × (words_fail q y.now ≡ false) }
     ensures { x.new ≡ add_words q x.old y.now }
 {
-    let mut i = 0;
-    while i < x.len() {
-        x[i] = add_below(x[i], y[i], q);
-        i += 1;
+    for (i, word) in x.iter_mut().enumerate() {
+        *word = add_below(*word, y[i], q);
     }
 }
 
@@ -61,21 +60,18 @@ fn add_refusal(
     x_tag: LweTag,
     y: &[u32],
     y_tag: LweTag,
-) -> u32
-    ensures { result ≡ refusal (add_rows modulus dimension.0 x.now x_tag y.now y_tag) }
+) -> Result<(), Refusal>
+    ensures { code_of result ≡ refusal (add_rows modulus dimension.0 x.now x_tag y.now y_tag) }
 {
     let mut s = Sizes::NONE;
     s.modulus = checks::modulus_refused(modulus);
     s.dimension = dimension.refused();
     s.input = dimension.ciphertexts_differ(x.len(), y.len());
-    let r = s.first();
-    if r != 0 {
-        return r;
-    }
+    s.judge()?;
     let mut v = Values::NONE;
     v.word = checks::both_refused(modulus, x, y);
     v.tally = lwe_tag::tags_refused(x_tag, y_tag);
-    v.first()
+    v.judge()
 }
 
 // x + y modulo q, word by word, in x, and the tag of the sum. Refuses by 2, 6, 10, 14, 17.
@@ -86,13 +82,10 @@ pub fn add_assign(
     x_tag: LweTag,
     y: &[u32],
     y_tag: LweTag,
-) -> LweAnswer
+) -> Result<LweTag, Refusal>
     ensures { Adds modulus dimension x.old x_tag y.now y_tag result x.new }
 {
-    let r = add_refusal(modulus, dimension, x, x_tag, y, y_tag);
-    if r != 0 {
-        return LweAnswer::Refused(r);
-    }
+    add_refusal(modulus, dimension, x, x_tag, y, y_tag)?;
     add_words(x, y, modulus);
-    LweAnswer::Written(lwe_tag::tags_sum(x_tag, y_tag))
+    Ok(lwe_tag::tags_sum(x_tag, y_tag))
 }
