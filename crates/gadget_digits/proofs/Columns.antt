@@ -1,6 +1,6 @@
 -- The loop over levels, and the digits that it writes.
 -- Assumes nothing.
-use mathlib.Core.Path.{◌≡◌, refl, sym, ap, ap₂, ◌∙◌, subst}
+use mathlib.Core.Path.{◌≡◌, refl, sym, ap, ap₂, ◌∙◌}
 use mathlib.Core.List.{List}
 use mathlib.Core.Logic.{◌≢◌}
 use Prim.Native.Nat.{ℕ, zero, suc, ◌+◌, ◌-◌, ◌*◌, ◌/◌, ◌%◌, ◌^◌, ◌≤◌, ◌<◌}
@@ -59,9 +59,6 @@ after_next j d e s = ap (λ x. (step_of x).next) s ∙ ap (λ n. after n d) (sym
 pub after_none : (d : SignedDecomposer) → d ≡ after 0 d
 unfolding after
 after_none d = refl
-
-pub column_all : (d : SignedDecomposer) (j L n i : ℕ) (out₀ out : List ℕ) → j ≤ L → L ≤ j → Column d j n i out₀ out → Column d L n i out₀ out
-column_all d j L n i out₀ out h k c = subst (λ m. Column d m n i out₀ out) (omega arith) c
 
 -- ---- the steps of a word's decomposer are its walk
 

@@ -2,8 +2,8 @@
 // for users: it has a `requires`.
 #![tactic(auto)]
 
-ghost use Rattle.std.specs.Prelude.{◌≡◌, ◌+◌, ◌*◌, ◌/◌, ◌%◌, ◌^◌, ◌<◌, ◌≤◌, ltb, eqb, length};
-ghost use Rattle.gadget_digits.specs.Walk.{bit};
+ghost use Rattle.std.specs.Prelude.{◌≡◌, ◌*◌, ◌/◌, ◌%◌, ◌^◌, ◌<◌, ◌≤◌, length, min};
+ghost use Rattle.gadget_digits.specs.Walk.{bit, window};
 ghost use Rattle.gadget_digits.specs.Step.{step_to, step_of};
 ghost use Rattle.gadget_digits.specs.Column.{Column};
 
@@ -25,51 +25,28 @@ pub struct Step {
 }
 
 // ⌊x / 2^log⌋
+#[tactic(auto, using(crate::proofs::Steps::above_none))]
 pub fn above(x: u32, log: u32) -> u32
     ensures { result ≡ x / 2 ^ log }
 {
-    if log < 32 { x >> log } else { 0 }
+    x.checked_shr(log).unwrap_or(0)
 }
 
-// The lowest `log` bits of x.
-fn window(x: u32, log: u32) -> u32
-    ensures { result ≡ x % 2 ^ log }
+// B, or 2^63 in place of a larger one: no word and no window reaches half of it.
+fn basis_within(log: u32) -> u64
+    ensures { result ≡ 2 ^ min log 63 }
 {
-    if log < 32 {
-        let basis = 1u32 << log;
-        return x & (basis - 1);
-    }
-    x
+    1 << log.min(63)
 }
 
-fn with_carry(x: u32, carry: bool) -> u64
-    ensures { (result ≡ x + bit carry) × (result ≤ 2 ^ 32) }
+// The lowest window of x, with the carry from the one below.
+#[tactic(auto, using(crate::proofs::Steps::masked))]
+fn window(x: u32, log: u32, carry: bool) -> u64
+    ensures is { result ≡ window log x (bit carry) }
+    ensures most { result ≤ 2 ^ 32 }
 {
-    if carry { x as u64 + 1 } else { x as u64 }
-}
-
-// Whether v is below B/2. No window reaches half of 2^64.
-fn below_half(v: u64, log: u32) -> bool
-    requires { v ≤ 2 ^ 32 }
-    ensures { result ≡ ltb v (2 ^ log / 2) }
-{
-    if log < 64 {
-        let basis = 1u64 << log;
-        return v < basis / 2;
-    }
-    true
-}
-
-// Whether v is B.
-fn is_basis(v: u64, log: u32) -> bool
-    requires { v ≤ 2 ^ 32 }
-    ensures { result ≡ eqb v (2 ^ log) }
-{
-    if log < 64 {
-        let basis = 1u64 << log;
-        return v == basis;
-    }
-    false
+    let low = u64::from(x) & (basis_within(log) - 1);
+    if carry { low + 1 } else { low }
 }
 
 impl SignedDecomposer {
@@ -78,13 +55,13 @@ impl SignedDecomposer {
     pub fn step(self) -> Step
         ensures { result ≡ step_of self }
     {
-        let log = self.log_basis;
-        let v = with_carry(window(self.value, log), self.carry);
-        let negative = v + self.modulus_minus_basis as u64;
-        if below_half(v, log) {
+        let basis = basis_within(self.log_basis);
+        let v = window(self.value, self.log_basis, self.carry);
+        let negative = v + u64::from(self.modulus_minus_basis);
+        if v < basis / 2 {
             return self.past(v, false);
         }
-        if is_basis(v, log) {
+        if v == basis {
             return self.past(0, true);
         }
         self.past(negative, true)
@@ -115,11 +92,9 @@ pub fn write_column(out: &mut [u32], start: SignedDecomposer, levels: usize, cou
     ensures { Column start levels count i out.old out.new }
 {
     let mut d = start;
-    let mut j = 0;
-    while j < levels {
+    for j in 0..levels {
         let s = d.step();
         out[j * count + i] = s.digit;
         d = s.next;
-        j += 1;
     }
 }

@@ -6,16 +6,14 @@ use Rattle.gadget_digits.proofs.Columns.{place_below, column_none, column_next, 
 use Rattle.gadget_digits.proofs.write_column.Goals as goal
 
 pub loop-j-init : goal.loop-j-init
-loop-j-init c =
-    (omega arith, after_none c.args.start, column_none c.args.start c.args.count c.args.i c.args.out.now)
+loop-j-init c = (after_none c.args.start, column_none c.args.start c.args.count c.args.i c.args.out.now)
 
 pub loop-j-preserved : goal.loop-j-preserved
 loop-j-preserved c =
     let place : c.loop-j.j * c.args.count + c.args.i < c.args.levels * c.args.count = place_below c.loop-j.j c.args.count c.args.i c.args.levels c.loop-j-test.true c.requires.1 in
     let e = c.step-s.ensures in
-    let n : c.loop-j.j * c.args.count + c.args.i < length c.loop-j.out = omega (arith, place, c.loop-j.invariant.2.same_length) in (
-      omega arith,
-      ap (λ x. x.next) e ∙ after_next c.loop-j.j c.args.start c.loop-j.d c.loop-j.invariant.1,
+    let n : c.loop-j.j * c.args.count + c.args.i < length c.loop-j.out = omega (arith, place) in (
+      ap (λ x. x.next) e ∙ after_next c.loop-j.j c.args.start c.loop-j.d c.loop-j.invariant.0,
       rw (ap (λ x. x.digit) e)
-          (column_next c.args.start c.loop-j.d c.loop-j.j c.args.count c.args.i c.args.out.now c.loop-j.out c.requires.1 n c.loop-j.invariant.1 c.loop-j.invariant.2),
+          (column_next c.args.start c.loop-j.d c.loop-j.j c.args.count c.args.i c.args.out.now c.loop-j.out c.requires.1 n c.loop-j.invariant.0 c.loop-j.invariant.1),
     )

@@ -1,10 +1,6 @@
-use Prim.Native.Nat.{◌≤◌, ◌-◌}
 use mathlib.Core.Path.{◌≡◌}
 use Rattle.gadget_digits.specs.Column.{after, Column}
 use Rattle.gadget_digits.proofs.write_column.Given as goal
 
 abbrev pub invariant-loop-j : goal.invariant-loop-j
-invariant-loop-j l = (l.j ≤ l.levels) × (l.d ≡ after l.j l.initial.d) × Column l.initial.d l.j l.count l.i l.initial.out l.out
-
-abbrev pub decreases-loop-j : goal.decreases-loop-j
-decreases-loop-j l = l.levels - l.j
+invariant-loop-j l = (l.d ≡ after l.j l.initial.d) × Column l.initial.d l.j l.count l.i l.initial.out l.out

@@ -1,20 +1,18 @@
-use mathlib.Core.Path.{sym, ◌∙◌}
+use Rattle.std.proofs.Common.{◌∙◌}
 use Rattle.gadget_digits.proofs.Steps.{step_small, step_top, step_large}
 use Rattle.gadget_digits.proofs.SignedDecomposer.step.Goals as goal
 
-pub returns-then-below_half : goal.returns-then-below_half
-returns-then-below_half c =
-    let d = c.args.self in
-    c.past.ensures ∙ step_small d _ _ c.with_carry-v.ensures.0 c.window.ensures (sym c.if-below_half.true ∙ c.below_half.ensures)
+pub returns-then-v-basis : goal.returns-then-v-basis
+returns-then-v-basis c =
+    c.past.ensures ∙ step_small c.args.self _ _ c.basis_within-basis.ensures c.window-v.ensures.most c.window-v.ensures.is c.if-v-basis.true
 
-pub returns-then-is_basis : goal.returns-then-is_basis
-returns-then-is_basis c =
-    let d = c.args.self in
-    c.past-then-is_basis.ensures
-    ∙ step_top d _ _ c.with_carry-v.ensures.0 c.window.ensures (sym c.if-below_half.false ∙ c.below_half.ensures) (sym c.if-is_basis.true ∙ c.is_basis.ensures)
+pub returns-then-v-basis-2 : goal.returns-then-v-basis-2
+returns-then-v-basis-2 c =
+    c.past-then-v-basis-2.ensures
+    ∙ step_top c.args.self _ _ c.basis_within-basis.ensures c.window-v.ensures.most c.window-v.ensures.is c.if-v-basis.false c.if-v-basis-2.true
 
 pub returns : goal.returns
 returns c =
-    let d = c.args.self in
     c.past-2.ensures
-    ∙ step_large d _ _ c.with_carry-v.ensures.0 c.window.ensures (sym c.if-below_half.false ∙ c.below_half.ensures) (sym c.if-is_basis.false ∙ c.is_basis.ensures)
+    ∙ rw c.from.ensures
+    (step_large c.args.self _ _ c.basis_within-basis.ensures c.window-v.ensures.most c.window-v.ensures.is c.if-v-basis.false c.if-v-basis-2.false)
