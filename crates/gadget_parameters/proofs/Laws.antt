@@ -1,19 +1,13 @@
--- The tests of a base log.
+-- The test of a base log against a modulus.
 -- Assumes nothing.
-use mathlib.Core.Path.{◌≡◌, sym, ap, ◌∙◌}
-use mathlib.Core.Bool.{true}
-use Prim.Native.Nat.{ℕ, ◌*◌, ◌/◌, ◌%◌, ◌^◌, ◌≤◌, ◌<◌}
-use native.Mathlib.Nat.{div-zero, lt_of_lt_of_le}
-use lib.Dec.{ltb}
-use lib.Pow.{pow_mono}
-use borrow.Author.Tests.{lt-ltb}
+use Rattle.std.proofs.Common.{◌≡◌, ℕ, ◌*◌, ◌%◌, ◌^◌, ◌<◌, ◌≤◌, nat_lt, min, ap, ◌∙◌, arith, pow_mono, lt-ltb}
+use Rattle.std.proofs.Math.Decide.{dec_lt}
 use Rattle.primus_reduce.proofs.Laws.{one_shl}
 
-pub base-over : (log q : ℕ) → q < 2 ^ 32 → 32 ≤ log → true ≡ ltb q (2 ^ log)
-base-over log q h k = sym (lt-ltb q (2 ^ log) (lt_of_lt_of_le h (pow_mono k)))
-
-pub base_test : (log q : ℕ) → log < 32 → ltb q ((1 * 2 ^ log) % 2 ^ 32) ≡ ltb q (2 ^ log)
-base_test log q h = ap (ltb q) (one_shl 32 log h)
-
-pub full_none : (k log : ℕ) → log ≡ 0 → 0 ≡ k / log
-full_none k log e = sym (ap (λ n. k / n) e ∙ div-zero k)
+-- B, or 2^32 in place of a larger one
+pub below_test : (q log : ℕ) → q < 2 ^ 32 → nat_lt q ((1 * 2 ^ min log 32) % 2 ^ 64) ≡ nat_lt q (2 ^ log)
+below_test q log h = ap (nat_lt q) (one_shl 64 (min log 32) (omega arith)) ∙ go (dec_lt log 32)
+  where
+    go : Dec (log < 32) → nat_lt q (2 ^ min log 32) ≡ nat_lt q (2 ^ log)
+    go (yes l) = ap (λ n. nat_lt q (2 ^ n)) (omega arith)
+    go (no l) = rw (lt-ltb q (2 ^ min log 32) (omega (arith, pow_mono {i = 32} {j = min log 32} (omega arith)))) (rw (lt-ltb q (2 ^ log) (omega (arith, pow_mono {i = 32} {j = log} (omega arith)))))

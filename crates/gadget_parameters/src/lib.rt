@@ -4,44 +4,28 @@
 ghost use Rattle.std.specs.Prelude.{◌≡◌, ◌*◌, ◌^◌, ltb};
 ghost use Rattle.scheme.specs.Modulus.{bits};
 ghost use Rattle.scheme.specs.Basis.{full_count};
-ghost use Rattle.scheme.specs.Checks.{base_log_fails, base_fails, levels_fail, basis_rows, length_fails};
+ghost use Rattle.scheme.specs.Checks.{base_log_fails, base_fails, levels_fail, basis_rows, length_fails, refusal};
 ghost use Rattle.primus_reduce.specs.Ring.{meant};
+ghost use Rattle.check_order.specs.Answer.{code_of};
 ghost use Rattle.check_order.specs.Judged.{JudgesSizes};
-ghost use Rattle.gadget_parameters.specs.Kinds.{base_log_answer, levels_for, level_count_of};
+ghost use Rattle.gadget_parameters.specs.Kinds.{base_log_rows, base_log_answer, levels_for, level_count_of};
 
-use check_order::Sizes;
+use check_order::{Refusal, Sizes};
 use primus_reduce::Modulus;
 
 // Base-2 logarithm of the gadget radix B.
 #[derive(Clone, Copy)]
 pub struct DecompositionBaseLog(u32);
 
-// `Refused` holds 1: base log is below 2 or above 31.
-#[derive(Clone, Copy)]
-pub enum DecompositionBaseLogAnswer {
-    Accepted(DecompositionBaseLog),
-    Refused(u32),
-}
-
 // Number of retained levels L. Any number is one: the basis judges it, after the modulus.
 #[derive(Clone, Copy)]
 pub struct DecompositionLevelCount(usize);
 
-// The Rust's Option: left open, all whole levels are retained.
-#[derive(Clone, Copy)]
-pub enum RetainedLevels {
-    Full,
-    Count(DecompositionLevelCount),
-}
-
+#[tactic(auto, using(crate::proofs::Laws::below_test))]
 fn below_basis(q: u32, log: u32) -> bool
     ensures { result ≡ ltb q (2 ^ log) }
 {
-    if log < 32 {
-        let basis = 1u32 << log;
-        return q < basis;
-    }
-    true
+    u64::from(q) < 1 << log.min(32)
 }
 
 impl DecompositionBaseLog {
@@ -50,17 +34,22 @@ impl DecompositionBaseLog {
     pub const MAX: u32 = 31;
 
     // Refuses by 1.
-    pub fn try_new(log_basis: u32) -> DecompositionBaseLogAnswer
+    #[tactic(auto, using(check_order::proofs::Answers::refused, check_order::proofs::Answers::served))]
+    pub fn try_new(log_basis: u32) -> Result<DecompositionBaseLog, Refusal>
         ensures { result ≡ base_log_answer log_basis }
     {
         let b = DecompositionBaseLog(log_basis);
+        b.refusal()?;
+        Ok(b)
+    }
+
+    #[tactic(auto, using(check_order::proofs::Answers::only_size), unfolding(scheme::specs::Checks::first_in))]
+    fn refusal(self) -> Result<(), Refusal>
+        ensures { code_of result ≡ refusal (base_log_rows self.0) }
+    {
         let mut s = Sizes::NONE;
-        s.base_log = b.refused();
-        let r = s.first();
-        if r != 0 {
-            return DecompositionBaseLogAnswer::Refused(r);
-        }
-        DecompositionBaseLogAnswer::Accepted(b)
+        s.base_log = self.refused();
+        s.judge()
     }
 
     // Any number, as a caller gives it: the calls judge it by 1, in its place in the order.
@@ -80,18 +69,14 @@ impl DecompositionBaseLog {
     pub fn full_count(self, modulus: Modulus) -> usize
         ensures { result ≡ full_count (bits 32 (meant modulus)) self.0 }
     {
-        let log = self.0;
-        if log == 0 {
-            return 0;
-        }
-        (modulus.value_bits() / log) as usize
+        modulus.value_bits().checked_div(self.0).unwrap_or(0) as usize
     }
 
     // 1: outside the limits of the kind.
     fn refused(self) -> bool
         ensures { result ≡ base_log_fails 32 self.0 }
     {
-        self.0 < DecompositionBaseLog::MIN || DecompositionBaseLog::MAX < self.0
+        !(DecompositionBaseLog::MIN..=DecompositionBaseLog::MAX).contains(&self.0)
     }
 
     // 3: an explicit modulus is below B.
@@ -110,6 +95,24 @@ impl DecompositionLevelCount {
         ensures { result.0 ≡ level_count }
     {
         DecompositionLevelCount(level_count)
+    }
+
+    // Retained levels as a number: at 0 they are left open.
+    pub fn retained(n: u32) -> Option<DecompositionLevelCount>
+        ensures { result ≡ levels_for n }
+    {
+        (n != 0).then_some(DecompositionLevelCount(n as usize))
+    }
+
+    // L: the count given, or all whole levels where it is left open.
+    pub fn or_full(
+        levels: Option<DecompositionLevelCount>,
+        log_basis: DecompositionBaseLog,
+        modulus: Modulus,
+    ) -> DecompositionLevelCount
+        ensures { result.0 ≡ level_count_of modulus log_basis.0 levels }
+    {
+        levels.unwrap_or(DecompositionLevelCount(log_basis.full_count(modulus)))
     }
 
     pub fn get(self) -> usize
@@ -134,29 +137,7 @@ impl DecompositionLevelCount {
     }
 }
 
-impl RetainedLevels {
-    // Levels as a number; 0 is left open.
-    pub fn given(n: u32) -> RetainedLevels
-        ensures { result ≡ levels_for n }
-    {
-        if n == 0 {
-            return RetainedLevels::Full;
-        }
-        RetainedLevels::Count(DecompositionLevelCount(n as usize))
-    }
-
-    // L: the count given, or all whole levels.
-    pub fn count(self, log_basis: DecompositionBaseLog, modulus: Modulus) -> DecompositionLevelCount
-        ensures { result.0 ≡ level_count_of modulus log_basis.0 self }
-    {
-        match self {
-            RetainedLevels::Full => DecompositionLevelCount(log_basis.full_count(modulus)),
-            RetainedLevels::Count(n) => n,
-        }
-    }
-}
-
-// 1 to 3 and 5, each in its field. That one whole level fits k follows (T-06).
+// 1 to 3 and 5, each in its field.
 pub fn basis_sizes(
     modulus: Modulus,
     log_basis: DecompositionBaseLog,
