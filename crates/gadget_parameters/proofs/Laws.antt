@@ -1,6 +1,6 @@
 -- The test of a base log against a modulus.
 -- Assumes nothing.
-use Rattle.std.proofs.Common.{◌≡◌, ℕ, ◌*◌, ◌%◌, ◌^◌, ◌<◌, ◌≤◌, nat_lt, min, ap, ◌∙◌, arith, pow_mono, lt-ltb}
+use Rattle.std.proofs.Common.{◌≡◌, ℕ, ◌*◌, ◌%◌, ◌^◌, ◌<◌, nat_lt, min, ap, ◌∙◌, arith, pow_mono, lt-ltb}
 use Rattle.std.proofs.Math.Decide.{dec_lt}
 use Rattle.primus_reduce.proofs.Laws.{one_shl}
 

@@ -34,7 +34,7 @@ impl DecompositionBaseLog {
     pub const MAX: u32 = 31;
 
     // Refuses by 1.
-    #[tactic(auto, using(check_order::proofs::Answers::refused, check_order::proofs::Answers::served))]
+    #[tactic(auto, using(check_order::proofs::Answers::served))]
     pub fn try_new(log_basis: u32) -> Result<DecompositionBaseLog, Refusal>
         ensures { result ≡ base_log_answer log_basis }
     {
@@ -43,7 +43,6 @@ impl DecompositionBaseLog {
         Ok(b)
     }
 
-    #[tactic(auto, using(check_order::proofs::Answers::only_size), unfolding(scheme::specs::Checks::first_in))]
     fn refusal(self) -> Result<(), Refusal>
         ensures { code_of result ≡ refusal (base_log_rows self.0) }
     {
