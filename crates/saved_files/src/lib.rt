@@ -1,6 +1,12 @@
 // Saved files, read whole into rooms that the caller lends.
 #![tactic(auto)]
 
+ghost use Rattle.std.specs.Prelude.{◌≡◌, ℕ, MatchOption};
+ghost use Rattle.scheme.specs.Numbers.{pick};
+ghost use Rattle.saved_head.specs.Head.{file_fails};
+ghost use Rattle.saved.specs.Layout.{file_word, signed_word};
+
+use check_order::Refusal;
 use lwe_tag::LweTag;
 use saved_head::Head;
 use std::rt::Files;
@@ -20,74 +26,71 @@ pub enum Stored {
 // A file's refusal and why, its head, the tag of its first ciphertext, and the checksum of its bytes.
 #[derive(Clone, Copy)]
 pub struct Loaded {
-    pub refusal: u32,
+    pub refusal: Result<(), Refusal>,
     pub stored: Stored,
     pub head: Head,
     pub tag: LweTag,
     pub checksum: u32,
 }
 
-fn mixed(sum: u32, byte: u8) -> u32 {
-    std::num::wrapping_add_u32(primus_reduce::wrapping_mul(sum, 16777619), byte as u32)
+// A word of a file as a room keeps it.
+pub trait SavedWord: Copy {
+    // What the word w is there.
+    ghost kept: { ℕ → Self };
+
+    fn at(bytes: &[u8], i: usize) -> Self
+        ensures { result ≡ kept (file_word bytes.now i) };
+}
+
+impl SavedWord for u32 {
+    ghost kept = { λ w. w };
+
+    fn at(bytes: &[u8], i: usize) -> u32 {
+        saved::word_at(bytes, i)
+    }
+}
+
+// The signed number of the same bits.
+impl SavedWord for i32 {
+    ghost kept = { signed_word };
+
+    fn at(bytes: &[u8], i: usize) -> i32 {
+        saved::signed_at(bytes, i)
+    }
 }
 
 fn checksum(bytes: &[u8]) -> u32 {
-    let mut sum = 0;
-    let mut i = 0;
-    while i < bytes.len() {
-        sum = mixed(sum, bytes[i]);
-        i += 1;
-    }
-    sum
+    bytes.iter().fold(
+        0,
+        |sum: u32, byte| sum.wrapping_mul(16777619).wrapping_add(u32::from(*byte)),
+    )
 }
 
-pub fn stored_as(opened: bool, bytes: &[u8]) -> Stored {
-    if !opened {
-        return Stored::Missing;
+// What the bytes of a file are; none where it cannot be opened.
+pub fn stored_as(file: Option<&[u8]>) -> Stored
+    ensures { MatchOption file.entry (result ≡ Stored.Missing)
+        (λ bytes. result ≡ pick (file_fails bytes.now) Stored.Broken Stored.Whole) }
+{
+    match file {
+        None => Stored::Missing,
+        Some(bytes) if saved_head::file_refused(bytes) => Stored::Broken,
+        Some(_) => Stored::Whole,
     }
-    if saved_head::file_refused(bytes) {
-        return Stored::Broken;
-    }
-    Stored::Whole
 }
 
-fn judged(opened: bool, bytes: &[u8]) -> Loaded {
-    let stored = stored_as(opened, bytes);
-    let head = saved_head::head_of(bytes);
-    let tag = saved::tag_at(bytes, 0);
+// A file with its words, as many as the room holds.
+pub fn load<W: SavedWord>(rt: &(impl Files + Eprint), path: &[u8], words: &mut [W]) -> Loaded {
+    let mut room = [0u8; ROOM];
+    let file = programs::read_file(rt, path, &mut room);
+    let bytes = file.unwrap_or(&[]);
+    for (i, word) in words.iter_mut().enumerate() {
+        *word = W::at(bytes, i);
+    }
     Loaded {
         refusal: saved_head::file_refusal(bytes),
-        stored,
-        head,
-        tag,
+        stored: stored_as(file),
+        head: saved_head::head_of(bytes),
+        tag: saved::tag_at(bytes, 0),
         checksum: checksum(bytes),
     }
-}
-
-// A file with its words.
-pub fn load(rt: &(impl Files + Eprint), path: &[u8], words: &mut [u32]) -> Loaded {
-    let mut room = [0u8; ROOM];
-    let f = programs::read_file(rt, path, &mut room);
-    let len = f.len;
-    let bytes: &[u8] = &room;
-    saved::words_to(&bytes[0..len], words);
-    judged(f.opened, &bytes[0..len])
-}
-
-fn numbers_to(bytes: &[u8], numbers: &mut [i32]) {
-    let mut i = 0;
-    while i < numbers.len() {
-        numbers[i] = saved::signed_at(bytes, i);
-        i += 1;
-    }
-}
-
-// A file with its words as signed numbers.
-pub fn load_numbers(rt: &(impl Files + Eprint), path: &[u8], numbers: &mut [i32]) -> Loaded {
-    let mut room = [0u8; ROOM];
-    let f = programs::read_file(rt, path, &mut room);
-    let len = f.len;
-    let bytes: &[u8] = &room;
-    numbers_to(&bytes[0..len], numbers);
-    judged(f.opened, &bytes[0..len])
 }
