@@ -1,5 +1,5 @@
 -- Rows of a public key: what writing an encryption asks, and its steps.
-use Rattle.std.specs.Prelude.{Bool, true, false, List, ◌≡◌, ℕ, ◌+◌, ◌*◌, ◌<◌, eqb, ℤ, pos, negsuc, nat_abs, ◌+ℤ◌, ◌*ℤ◌, length, get_or}
+use Rattle.std.specs.Prelude.{List, ◌≡◌, ℕ, ◌+◌, ◌*◌, ◌<◌, eqb, ℤ, pos, nat_abs, ◌+ℤ◌, ◌*ℤ◌, length, get_or}
 use Rattle.scheme.specs.Numbers.{pick, residue}
 
 -- of n coefficients: a key of n rows of n + 1 words, and room for one
@@ -8,11 +8,6 @@ pub record Public (q n : ℕ) (key : List ℕ) (rs : List ℤ) (room : ℕ) : Ty
   pub rows : length key ≡ n * (n + 1)
   pub fits : room ≡ n + 1
   pub small : (i : ℕ) → i < n → nat_abs (get_or rs i (pos 0)) < 2
-
--- −1 or 1
-abbrev pub sign : Bool → ℤ
-sign true = negsuc 0
-sign false = pos 1
 
 -- x + r × y modulo q
 abbrev pub plus_times : ℕ → ℤ → ℕ → ℕ → ℕ

@@ -6,10 +6,11 @@ ghost use Rattle.scheme.specs.Lwe.{signed as errorsOf, secret_of, public_key, pu
 ghost use Rattle.scheme.specs.Switch.{Below};
 ghost use Rattle.primus_reduce.specs.Ring.{size_of};
 ghost use Rattle.lwe_secret_key.specs.Key.{key_of};
-ghost use Rattle.lwe_public_rows.specs.Public.{sign, plus_times, start_word, Public};
+ghost use Rattle.lwe_public_rows.specs.Public.{plus_times, start_word, Public};
 
-use lwe_secret_key::{KeyForm, encrypt_to, error_residue};
+use lwe_secret_key::{KeyForm, encrypt_row, error_residue};
 use primus_reduce::Modulus;
+use std::cmp::Ordering;
 
 // n encryptions of 0, row i with mask i and error i.
 pub fn write_zeros(
@@ -26,20 +27,13 @@ pub fn write_zeros(
     ensures { out.new ≡ public_key (size_of modulus) n masks.now
         (secret_of (key_of form words.now signed.now)) (errorsOf errors.now) }
 {
-    let mut i = 0;
-    while i < n {
-        let from = i * n;
-        let to = from + n;
-        let at = i * (n + 1);
-        let end = at + (n + 1);
-        let row = &mut out[at..end];
-        let mask = &masks[from..to];
-        encrypt_to(row, form, words, signed, mask, errors, i, 0, modulus);
-        i += 1;
+    for i in 0..n {
+        encrypt_row(out, form, words, signed, masks, n, errors, i, 0, modulus);
     }
 }
 
 // Word k before any row: error k, and in the body the plaintext too.
+#[tactic(auto, using(crate::proofs::Laws::start_body, crate::proofs::Laws::start_mask))]
 fn start_word(errors: &[i32], plaintext: u32, k: usize, n: usize, modulus: Modulus) -> u32
     requires { 0 < size_of modulus }
     ensures { result ≡ start_word (size_of modulus) n (errorsOf errors.now) plaintext k }
@@ -56,49 +50,32 @@ fn start(out: &mut [u32], errors: &[i32], plaintext: u32, n: usize, modulus: Mod
     ensures { out.new ≡ tabulate (length out.old)
         (start_word (size_of modulus) n (errorsOf errors.now) plaintext) }
 {
-    let mut k = 0;
-    while k < out.len() {
-        out[k] = start_word(errors, plaintext, k, n, modulus);
-        k += 1;
+    for (k, x) in out.iter_mut().enumerate() {
+        *x = start_word(errors, plaintext, k, n, modulus);
     }
 }
 
-// x − y where `negative`, else x + y.
-fn add_word(x: u32, y: u32, negative: bool, modulus: Modulus) -> u32
-    requires { 0 < size_of modulus }
-    ensures { result ≡ plus_times (size_of modulus) (sign negative) x y }
+// x + r × y for a coefficient r, one of −1, 0, 1.
+#[tactic(auto, using(crate::proofs::Laws::same_word))]
+fn add_word(x: u32, y: u32, r: i32, modulus: Modulus) -> u32
+    requires { (0 < size_of modulus) × (nat_abs r < 2) × (x < size_of modulus) }
+    ensures { result ≡ plus_times (size_of modulus) r x y }
 {
-    if negative {
-        return modulus.reduce_sub(x, y);
-    }
-    modulus.reduce_add(x, y)
-}
-
-fn add_row(out: &mut [u32], row: &[u32], negative: bool, modulus: Modulus)
-    requires { (0 < size_of modulus) × (length out.old ≡ length row.now) }
-    ensures { out.new ≡
-        zip_with (plus_times (size_of modulus) (sign negative)) out.old row.now }
-{
-    let mut k = 0;
-    while k < out.len() {
-        out[k] = add_word(out[k], row[k], negative, modulus);
-        k += 1;
+    match r.cmp(&0) {
+        Ordering::Less => modulus.reduce_sub(x, y),
+        Ordering::Equal => x,
+        Ordering::Greater => modulus.reduce_add(x, y),
     }
 }
 
-// out + r × row for coefficient i, one of −1, 0, 1: the row is added, left out or taken away.
-fn add_multiple(out: &mut [u32], row: &[u32], coefficients: &[i32], i: usize, modulus: Modulus)
-    requires { (0 < size_of modulus) × (length out.old ≡ length row.now) × (i < length coefficients.now)
-        × (nat_abs (get_or coefficients.now i (pos 0)) < 2) × Below (size_of modulus) out.old }
-    ensures { out.new ≡
-        zip_with (plus_times (size_of modulus) (get_or coefficients.now i (pos 0)))
-        out.old row.now }
+// out + r × row: the row is added, left out or taken away.
+fn add_multiple(out: &mut [u32], row: &[u32], r: i32, modulus: Modulus)
+    requires { (0 < size_of modulus) × (length out.old ≡ length row.now)
+        × (nat_abs r < 2) × Below (size_of modulus) out.old }
+    ensures { out.new ≡ zip_with (plus_times (size_of modulus) r) out.old row.now }
 {
-    let r = coefficients[i];
-    if 0 < r {
-        add_row(out, row, false, modulus);
-    } else if r < 0 {
-        add_row(out, row, true, modulus);
+    for (k, x) in out.iter_mut().enumerate() {
+        *x = add_word(*x, row[k], r, modulus);
     }
 }
 
@@ -118,11 +95,8 @@ pub fn write_public(
 {
     let n = coefficients.len();
     start(out, errors, plaintext, n, modulus);
-    let mut i = 0;
-    while i < n {
+    for (i, r) in coefficients.iter().enumerate() {
         let at = i * (n + 1);
-        let end = at + (n + 1);
-        add_multiple(out, &key[at..end], coefficients, i, modulus);
-        i += 1;
+        add_multiple(out, &key[at..at + (n + 1)], *r, modulus);
     }
 }
