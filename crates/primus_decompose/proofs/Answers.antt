@@ -7,18 +7,16 @@ use Prim.Native.Nat.{ℕ, ◌+◌, ◌*◌, ◌<◌}
 use native.Mathlib.Nat.{mul-one, zero-add}
 use native.Mathlib.Omega.{arith}
 use lib.ListN.{length, get_or}
-use lib.Dec.{ltb, leb, eqb}
+use lib.Dec.{ltb, leb}
 use borrow.Author.Tests.{lt-leb, le-leb, ltb-true, ltb-false}
-use Rattle.scheme.specs.Numbers.{pick}
-use Rattle.scheme.specs.Basis.{Basis}
 use Rattle.scheme.specs.Checks.{row, refusal, all_of, length_fails, words_fail, Writes}
 use Rattle.scheme.proofs.Checks.{length_ok, word_ok, words_ok}
-use Rattle.scheme.proofs.Order.{passed, passed_part, given, writes_by}
+use Rattle.scheme.proofs.Order.{passed, passed_part, writes_by}
 use Rattle.scheme.proofs.Lists.{is-tabulate, length_runs, get_or_runs}
 use Rattle.scheme.specs.Digits.{digit, stored, digits_of, runs_of}
 use Rattle.primus_reduce.specs.Ring.{size_of}
 use Rattle.gadget_constants.specs.declared.prepared.PreparedBasis.{PreparedBasis}
-use Rattle.gadget_constants.specs.Prepared.{Ready, basis_in}
+use Rattle.gadget_constants.specs.Prepared.{Ready}
 use Rattle.gadget_constants.specs.Word.{Words}
 use Rattle.primus_decompose.specs.declared.primitive.basis.ApproxSignedBasis.{ApproxSignedBasis}
 use Rattle.primus_decompose.specs.Answers.{basis, rows, prepared_by, word_rows, digit_rows, Decomposes, slice_rows, DecomposesSlice}
@@ -26,19 +24,16 @@ use Rattle.primus_decompose.specs.Answers.{basis, rows, prepared_by, word_rows, 
 -- ---- what a passed refusal leaves
 
 -- what a call on one word may go on with: a basis that is ready, and a word below q
-pub record Passed (b : ApproxSignedBasis) (a : ℕ) : Type 1 where
+pub record Passed (b : ApproxSignedBasis) (a : ℕ) : Type 0 where
   pub judged : refusal (rows b) ≡ 0
   pub ready : {p : PreparedBasis} → Ready p × (p ≡ prepared_by b) → Ready p × (a < size_of p.modulus)
-  pub answer : {A B : Type 0} (say : B → A) (f : Basis → B) (y : A) {p : PreparedBasis} {v : B} → Ready p × (p ≡ prepared_by b) → v ≡ f (basis_in p)
-      → say v ≡ pick (eqb (refusal (word_rows b a)) 0) (say (f (basis b))) y
 
-pub passes : {b : ApproxSignedBasis} {a r : ℕ} → r ≡ refusal (word_rows b a) → r ≡ 0 → Passed b a
-passes {b} {a} e z =
-    let n = sym e ∙ z in
+pub passes : (b : ApproxSignedBasis) (a : ℕ) → 0 ≡ refusal (word_rows b a) → Passed b a
+passes b a e =
+    let n = sym e in
     record {
       judged = passed_part (rows b) _ n;
       ready = λ h. (h.0, rw h.1 (word_ok (size_of b.modulus) a (passed (word_rows b a) n 14 tt)));
-      answer = λ say f y h g. given _ _ _ _ n (ap say (g ∙ ap (λ p. f (basis_in p)) h.1));
     }
 
 -- what the slice call may go on with
@@ -47,9 +42,9 @@ pub record Decomposable (b : ApproxSignedBasis) (xs : List ℕ) (room : ℕ) : T
   pub sized : room ≡ b.level_count.0 * length xs
   pub below : Words (size_of b.modulus) xs
 
-pub decomposable : {b : ApproxSignedBasis} {xs : List ℕ} {room r : ℕ} → r ≡ refusal (slice_rows b xs room) → r ≡ 0 → Decomposable b xs room
-decomposable {b} {xs} {room} e z =
-    let n = sym e ∙ z in
+pub decomposable : {b : ApproxSignedBasis} {xs : List ℕ} {room : ℕ} → 0 ≡ refusal (slice_rows b xs room) → Decomposable b xs room
+decomposable {b} {xs} {room} e =
+    let n = sym e in
     let no = passed (slice_rows b xs room) n in
     record {
       judged = passed_part (rows b) _ n;

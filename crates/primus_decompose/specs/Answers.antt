@@ -1,32 +1,25 @@
 -- The answers of the calls: the value that a definition gives, or the first number that applies.
-use Rattle.std.specs.Prelude.{List, [], ◌∷◌, ◌++◌, ℕ, ◌*◌, ◌%◌, ◌^◌, eqb, ltb, ℤ, length}
+use Rattle.std.specs.Prelude.{List, [], ◌∷◌, ◌++◌, ℕ, ◌*◌, ◌%◌, ◌^◌, ltb, ℤ, length, Option, Result, IfOk}
 use Rattle.scheme.specs.Numbers.{pick}
 use Rattle.scheme.specs.Basis as B
 use Rattle.scheme.specs.Reading as R
 use Rattle.scheme.specs.Digits.{digits_of, runs_of}
-use Rattle.scheme.specs.Checks.{Check, row, refusal, Writes, basis_rows}
+use Rattle.scheme.specs.Checks.{Check, row, Writes, basis_rows}
 use Rattle.scheme.specs.Checks.{length_fails, word_fails, words_fail}
 use Rattle.primus_reduce.specs.Ring.{meant, size_of}
 use Rattle.primus_reduce.specs.declared.modulus.Modulus.{Modulus}
-use Rattle.checks.specs.declared.WordAnswer.{WordAnswer}
-use Rattle.checks.specs.Answers.{word_answer}
+use Rattle.check_order.specs.declared.refusal.Refusal.{Refusal}
+use Rattle.check_order.specs.Answer.{answer}
 use Rattle.gadget_parameters.specs.declared.DecompositionBaseLog.{DecompositionBaseLog}
-use Rattle.gadget_parameters.specs.declared.RetainedLevels.{RetainedLevels}
+use Rattle.gadget_parameters.specs.declared.DecompositionLevelCount.{DecompositionLevelCount}
 use Rattle.gadget_parameters.specs.Kinds.{levels_for, level_count_of}
 use Rattle.gadget_digits.specs.Step.{decomposer_of}
 use Rattle.gadget_constants.specs.declared.prepared.PreparedBasis.{PreparedBasis}
 use Rattle.gadget_constants.specs.Prepared.{basis_by, prepared_of, Ready}
 use Rattle.gadget_constants.specs.Word.{init_of, reading_of, signed_by}
-use Rattle.primus_decompose.specs.declared.error.ApproxSignedBasisAnswer.{ApproxSignedBasisAnswer}
-use Rattle.primus_decompose.specs.declared.error.ApproxSignedBasisAnswer.TheVariants as A
-use Rattle.primus_decompose.specs.declared.error.ValueCarryAnswer.{ValueCarryAnswer}
-use Rattle.primus_decompose.specs.declared.error.ValueCarryAnswer.TheVariants as C
-use Rattle.primus_decompose.specs.declared.error.DecomposerAnswer.{DecomposerAnswer}
-use Rattle.primus_decompose.specs.declared.error.DecomposerAnswer.TheVariants as D
-use Rattle.primus_decompose.specs.declared.error.ReadingAnswer.{ReadingAnswer}
-use Rattle.primus_decompose.specs.declared.error.ReadingAnswer.TheVariants as E
-use Rattle.primus_decompose.specs.declared.error.PreparedBasisAnswer.{PreparedBasisAnswer}
-use Rattle.primus_decompose.specs.declared.error.PreparedBasisAnswer.TheVariants as P
+use Rattle.gadget_digits.specs.declared.SignedDecomposer.{SignedDecomposer}
+use Rattle.gadget_constants.specs.declared.word.ValueCarry.{ValueCarry}
+use Rattle.gadget_constants.specs.declared.word.Reading.{Reading}
 use Rattle.primus_decompose.specs.declared.primitive.basis.ApproxSignedBasis.{ApproxSignedBasis}
 
 -- the basis that a value stands for
@@ -38,7 +31,7 @@ abbrev pub rows : ApproxSignedBasis → List Check
 rows b = basis_rows 32 (meant b.modulus) b.log_basis.0 b.level_count.0
 
 -- q, base log and L as they are given
-abbrev pub basis_from : Modulus → DecompositionBaseLog → RetainedLevels → ApproxSignedBasis
+abbrev pub basis_from : Modulus → DecompositionBaseLog → Option DecompositionLevelCount → ApproxSignedBasis
 basis_from m b l = record { modulus = m; log_basis = b; level_count = record { 0 = level_count_of m b.0 l } }
 
 -- the basis of plain numbers, levels 0 left open
@@ -46,10 +39,10 @@ abbrev pub basis_with : Modulus → ℕ → ℕ → ApproxSignedBasis
 basis_with m b l = basis_from m (record { 0 = b }) (levels_for l)
 
 -- a basis, or the first of 1 to 3 and 5
-abbrev pub tried : ApproxSignedBasis → ApproxSignedBasisAnswer
-tried b = pick (eqb (refusal (rows b)) 0) (A.Accepted b) (A.Refused (refusal (rows b)))
+abbrev pub tried : ApproxSignedBasis → Result ApproxSignedBasis Refusal
+tried b = answer (rows b) b
 
-abbrev pub basis_answer : Modulus → DecompositionBaseLog → RetainedLevels → ApproxSignedBasisAnswer
+abbrev pub basis_answer : Modulus → DecompositionBaseLog → Option DecompositionLevelCount → Result ApproxSignedBasis Refusal
 basis_answer m b l = tried (basis_from m b l)
 
 -- B as a word
@@ -61,37 +54,33 @@ abbrev pub weight_word : ApproxSignedBasis → ℕ → ℕ
 weight_word b j = pick (ltb j b.level_count.0) (B.weight (basis b) j % 2 ^ 32) 0
 
 -- T, or the first of 1 to 3 and 5
-abbrev pub threshold_answer : ApproxSignedBasis → WordAnswer
-threshold_answer b = word_answer (rows b) (R.threshold (basis b))
+abbrev pub threshold_answer : ApproxSignedBasis → Result ℕ Refusal
+threshold_answer b = answer (rows b) (R.threshold (basis b))
 
 -- the constants, or the first of 1 to 3 and 5
 abbrev pub prepared_by : ApproxSignedBasis → PreparedBasis
 prepared_by b = prepared_of b.modulus b.log_basis.0 b.level_count.0
 
-abbrev pub prepared_answer : ApproxSignedBasis → PreparedBasisAnswer
-prepared_answer b = pick (eqb (refusal (rows b)) 0) (P.Ready (prepared_by b)) (P.Refused (refusal (rows b)))
+abbrev pub prepared_answer : ApproxSignedBasis → Result PreparedBasis Refusal
+prepared_answer b = answer (rows b) (prepared_by b)
 
 -- the constants that are answered are those of an accepted basis
-abbrev pub WhereReady : PreparedBasisAnswer → Type 0
-WhereReady (P.Ready p) = Ready p
-WhereReady (P.Refused r) = Unit {0}
+abbrev pub WhereReady : Result PreparedBasis Refusal → Type 0
+WhereReady r = IfOk r Ready
 
 -- a call on one word judges 1 to 3, 5 and 14
 abbrev pub word_rows : ApproxSignedBasis → ℕ → List Check
 word_rows b a = rows b ++ row (word_fails (size_of b.modulus) a) 14 ∷ []
 
-abbrev pub init_answer : ApproxSignedBasis → ℕ → ValueCarryAnswer
-init_answer b a =
-    pick (eqb (refusal (word_rows b a)) 0) (C.Ready (init_of (basis b) a)) (C.Refused (refusal (word_rows b a)))
+abbrev pub init_answer : ApproxSignedBasis → ℕ → Result ValueCarry Refusal
+init_answer b a = answer (word_rows b a) (init_of (basis b) a)
 
-abbrev pub decomposer_answer : ApproxSignedBasis → ℕ → DecomposerAnswer
-decomposer_answer b a =
-    pick (eqb (refusal (word_rows b a)) 0) (D.Ready (decomposer_of (basis b) a)) (D.Refused (refusal (word_rows b a)))
+abbrev pub decomposer_answer : ApproxSignedBasis → ℕ → Result SignedDecomposer Refusal
+decomposer_answer b a = answer (word_rows b a) (decomposer_of (basis b) a)
 
 -- the reading and ε
-abbrev pub reading_answer : ApproxSignedBasis → ℕ → ReadingAnswer
-reading_answer b a =
-    pick (eqb (refusal (word_rows b a)) 0) (E.Read (reading_of (basis b) a)) (E.Refused (refusal (word_rows b a)))
+abbrev pub reading_answer : ApproxSignedBasis → ℕ → Result Reading Refusal
+reading_answer b a = answer (word_rows b a) (reading_of (basis b) a)
 
 -- a stored digit as a signed number
 abbrev pub signed_digit : ApproxSignedBasis → ℕ → ℤ

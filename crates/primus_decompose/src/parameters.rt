@@ -2,20 +2,21 @@
 ghost use Rattle.std.specs.Prelude.{◌≡◌};
 ghost use Rattle.primus_decompose.specs.Answers.{basis_answer};
 
-use crate::error::ApproxSignedBasisAnswer;
 use crate::primitive::ApproxSignedBasis;
-use gadget_parameters::{DecompositionBaseLog, RetainedLevels};
+use check_order::Refusal;
+use gadget_parameters::{DecompositionBaseLog, DecompositionLevelCount};
 use primus_reduce::Modulus;
 
 #[derive(Clone, Copy)]
 pub struct DecompositionConfig {
     pub log_basis: DecompositionBaseLog,
-    pub level_count: RetainedLevels,
+    // None: all whole levels are retained.
+    pub level_count: Option<DecompositionLevelCount>,
 }
 
 impl DecompositionConfig {
     // The basis of this configuration and q. Refuses by 1, 2, 3, 4, 5.
-    pub fn try_into_basis(self, modulus: Modulus) -> ApproxSignedBasisAnswer
+    pub fn try_into_basis(self, modulus: Modulus) -> Result<ApproxSignedBasis, Refusal>
         ensures { result ≡ basis_answer modulus self.log_basis self.level_count }
     {
         let log_basis = self.log_basis;

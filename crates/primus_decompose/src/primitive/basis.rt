@@ -5,19 +5,17 @@ ghost use Rattle.scheme.specs.Modulus.{bits};
 ghost use Rattle.scheme.specs.Basis.{bound, dropped};
 ghost use Rattle.scheme.specs.Checks.{refusal};
 ghost use Rattle.primus_reduce.specs.Ring.{meant, power_of_two};
+ghost use Rattle.check_order.specs.Answer.{code_of};
 ghost use Rattle.check_order.specs.Judged.{JudgesSizes};
 ghost use Rattle.gadget_constants.specs.Prepared.{Ready};
 ghost use Rattle.primus_decompose.specs.Answers.{basis_from, basis_with, basis_answer, basis, rows, word_rows};
-ghost use Rattle.primus_decompose.specs.Answers.{base_word, weight_word, threshold_answer, prepared_by, WhereReady};
-ghost use Rattle.primus_decompose.specs.Answers.{prepared_answer, init_answer, decomposer_answer, slice_rows};
+ghost use Rattle.primus_decompose.specs.Answers.{base_word, weight_word, threshold_answer, prepared_by};
+ghost use Rattle.primus_decompose.specs.Answers.{init_answer, decomposer_answer, slice_rows};
 
-use crate::error::{
-    ApproxSignedBasisAnswer, DecomposerAnswer, PreparedBasisAnswer, ValueCarryAnswer,
-};
-use check_order::{Sizes, Values};
-use checks::WordAnswer;
-use gadget_constants::PreparedBasis;
-use gadget_parameters::{DecompositionBaseLog, DecompositionLevelCount, RetainedLevels};
+use check_order::{Refusal, Sizes, Values};
+use gadget_constants::{PreparedBasis, ValueCarry};
+use gadget_digits::SignedDecomposer;
+use gadget_parameters::{DecompositionBaseLog, DecompositionLevelCount};
 use primus_reduce::Modulus;
 
 // Three numbers, judged by 1 to 3 and 5 by every call that takes them.
@@ -33,16 +31,13 @@ impl ApproxSignedBasis {
     pub fn try_new(
         modulus: Modulus,
         log_basis: DecompositionBaseLog,
-        level_count: RetainedLevels,
-    ) -> ApproxSignedBasisAnswer
+        level_count: Option<DecompositionLevelCount>,
+    ) -> Result<ApproxSignedBasis, Refusal>
         ensures { result ≡ basis_answer modulus log_basis level_count }
     {
         let b = ApproxSignedBasis::of(modulus, log_basis, level_count);
-        let r = b.refusal();
-        if r != 0 {
-            return ApproxSignedBasisAnswer::Refused(r);
-        }
-        ApproxSignedBasisAnswer::Accepted(b)
+        b.refusal()?;
+        Ok(b)
     }
 
     // Any numbers, as a caller gives them, levels 0 left open: the calls judge them by 1 to 3 and 5.
@@ -50,20 +45,21 @@ impl ApproxSignedBasis {
         ensures { result ≡ basis_with modulus base_log levels }
     {
         let log_basis = DecompositionBaseLog::given(base_log);
-        ApproxSignedBasis::of(modulus, log_basis, RetainedLevels::given(levels))
+        let level_count = DecompositionLevelCount::retained(levels);
+        ApproxSignedBasis::of(modulus, log_basis, level_count)
     }
 
     fn of(
         modulus: Modulus,
         log_basis: DecompositionBaseLog,
-        level_count: RetainedLevels,
+        level_count: Option<DecompositionLevelCount>,
     ) -> ApproxSignedBasis
         ensures { result ≡ basis_from modulus log_basis level_count }
     {
         ApproxSignedBasis {
             modulus,
             log_basis,
-            level_count: level_count.count(log_basis, modulus),
+            level_count: DecompositionLevelCount::or_full(level_count, log_basis, modulus),
         }
     }
 
@@ -136,50 +132,30 @@ impl ApproxSignedBasis {
     }
 
     // T. Refuses by 1 to 3, 5.
-    pub fn threshold(self) -> WordAnswer
+    pub fn threshold(self) -> Result<u32, Refusal>
         ensures { result ≡ threshold_answer self }
     {
-        let r = self.refusal();
-        if r != 0 {
-            return WordAnswer::Refused(r);
-        }
+        self.refusal()?;
         let p = self.prepared();
-        WordAnswer::Word(p.threshold)
+        Ok(p.threshold)
     }
 
     // The adjusted word and the carry into the lowest level. Refuses by 1 to 3, 5, 14.
-    pub fn init_value_carry(self, value: u32) -> ValueCarryAnswer
+    pub fn init_value_carry(self, value: u32) -> Result<ValueCarry, Refusal>
         ensures { result ≡ init_answer self value }
     {
-        let r = self.word_refusal(value);
-        if r != 0 {
-            return ValueCarryAnswer::Refused(r);
-        }
+        self.word_refusal(value)?;
         let p = self.prepared();
-        ValueCarryAnswer::Ready(p.init_value_carry(value))
+        Ok(p.init_value_carry(value))
     }
 
     // The decomposer of a word, before its lowest level. Refuses by 1 to 3, 5, 14.
-    pub fn decomposer(self, value: u32) -> DecomposerAnswer
+    pub fn decomposer(self, value: u32) -> Result<SignedDecomposer, Refusal>
         ensures { result ≡ decomposer_answer self value }
     {
-        let r = self.word_refusal(value);
-        if r != 0 {
-            return DecomposerAnswer::Refused(r);
-        }
+        self.word_refusal(value)?;
         let p = self.prepared();
-        DecomposerAnswer::Ready(p.decomposer(value))
-    }
-
-    // The basis with its constants, for many words. Refuses by 1 to 3, 5.
-    pub fn prepare(self) -> PreparedBasisAnswer
-        ensures { (result ≡ prepared_answer self) × WhereReady result }
-    {
-        let r = self.refusal();
-        if r != 0 {
-            return PreparedBasisAnswer::Refused(r);
-        }
-        PreparedBasisAnswer::Ready(self.prepared())
+        Ok(p.decomposer(value))
     }
 
     // 1 to 3, 5, each in its field: a call that takes a basis sets its own fields on top.
@@ -192,44 +168,38 @@ impl ApproxSignedBasis {
         gadget_parameters::basis_sizes(modulus, log, levels)
     }
 
-    // The first of 1 to 3 and 5 that applies, or 0.
-    pub fn refusal(self) -> u32
-        ensures { result ≡ refusal (rows self) }
+    // 1 to 3, 5
+    pub fn refusal(self) -> Result<(), Refusal>
+        ensures { code_of result ≡ refusal (rows self) }
     {
         let s = self.sizes();
-        s.first()
+        s.judge()
     }
 
     // 1 to 3, 5, 14
-    pub(crate) fn word_refusal(self, value: u32) -> u32
-        ensures { result ≡ refusal (word_rows self value) }
+    pub(crate) fn word_refusal(self, value: u32) -> Result<(), Refusal>
+        ensures { code_of result ≡ refusal (word_rows self value) }
     {
         let s = self.sizes();
-        let r = s.first();
-        if r != 0 {
-            return r;
-        }
+        s.judge()?;
         let modulus = self.modulus;
         let mut v = Values::NONE;
         v.word = checks::word_refused(modulus, value);
-        v.first()
+        v.judge()
     }
 
     // 1 to 3, 5, 11, 14
-    pub(crate) fn slice_refusal(self, values: &[u32], room: usize) -> u32
-        ensures { result ≡ refusal (slice_rows self values.now room) }
+    pub(crate) fn slice_refusal(self, values: &[u32], room: usize) -> Result<(), Refusal>
+        ensures { code_of result ≡ refusal (slice_rows self values.now room) }
     {
         let levels = self.level_count;
         let mut s = self.sizes();
         s.output = levels.runs_differ(room, values.len());
-        let r = s.first();
-        if r != 0 {
-            return r;
-        }
+        s.judge()?;
         let modulus = self.modulus;
         let mut v = Values::NONE;
         v.word = checks::words_refused(modulus, values);
-        v.first()
+        v.judge()
     }
 
     pub(crate) fn prepared(self) -> PreparedBasis

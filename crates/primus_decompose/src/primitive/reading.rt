@@ -2,8 +2,9 @@
 ghost use Rattle.std.specs.Prelude.{◌≡◌};
 ghost use Rattle.primus_decompose.specs.Answers.{reading_answer, signed_digit};
 
-use crate::error::ReadingAnswer;
 use crate::primitive::basis::ApproxSignedBasis;
+use check_order::Refusal;
+use gadget_constants::Reading;
 
 impl ApproxSignedBasis {
     // The number that a stored digit stands for: itself below B/2, else q less.
@@ -14,13 +15,10 @@ impl ApproxSignedBasis {
     }
 
     // The reading and ε. Refuses by 1 to 3, 5, 14.
-    pub fn reading(self, value: u32) -> ReadingAnswer
+    pub fn reading(self, value: u32) -> Result<Reading, Refusal>
         ensures { result ≡ reading_answer self value }
     {
-        let r = self.word_refusal(value);
-        if r != 0 {
-            return ReadingAnswer::Refused(r);
-        }
-        ReadingAnswer::Read(gadget_constants::read(self.prepared(), value))
+        self.word_refusal(value)?;
+        Ok(gadget_constants::read(self.prepared(), value))
     }
 }

@@ -1,19 +1,21 @@
-use mathlib.Core.Path.{◌∙◌}
+use Rattle.std.proofs.Common.{arith, ap, ◌∙◌}
+use Rattle.std.proofs.lemmas.Grind.{common_steps}
+use Rattle.check_order.proofs.Answers.{refused, served}
+use Rattle.gadget_constants.specs.Prepared.{basis_in}
 use Rattle.gadget_digits.specs.Step.{decomposer_of}
 use Rattle.gadget_constants.proofs.Constants.{decomposer_ready}
-use Rattle.primus_decompose.specs.declared.error.DecomposerAnswer.TheVariants.{Ready}
-use Rattle.primus_decompose.proofs.Answers.{Passed, passes}
+use Rattle.primus_decompose.specs.Answers.{basis}
+use Rattle.primus_decompose.proofs.Answers.{passes}
 use Rattle.primus_decompose.proofs.primitive.basis.ApproxSignedBasis.decomposer.Goals as goal
 
+pub returns-in_err-word_refusal : goal.returns-in_err-word_refusal
+returns-in_err-word_refusal c = grind (arith, common_steps, refused _ (decomposer_of (basis c.args.self) c.args.value) _ c.in_err-word_refusal.ensures)
+
 pub prepared-p-requires : goal.prepared-p-requires
-prepared-p-requires c =
-    let word : Passed c.args.self c.args.value = passes c.word_refusal-r.ensures c.if-r-ne0.false in
-    word.judged
+prepared-p-requires c = (passes c.args.self c.args.value c.in_ok-word_refusal.ensures).judged
 
 pub returns : goal.returns
 returns c =
-    let word : Passed c.args.self c.args.value = passes c.word_refusal-r.ensures c.if-r-ne0.false in
-    let w = word in
-    let r = w.ready c.prepared-p.ensures in
-    let a = c.args.value in
-    w.answer Ready (λ b. decomposer_of b a) _ c.prepared-p.ensures (c.decomposer.ensures ∙ decomposer_ready _ r.0 a r.1)
+    let r = (passes c.args.self c.args.value c.in_ok-word_refusal.ensures).ready c.prepared-p.ensures in
+    served _ _ _ c.in_ok-word_refusal.ensures
+    (c.decomposer.ensures ∙ decomposer_ready _ r.0 c.args.value r.1 ∙ ap (λ p. decomposer_of (basis_in p) c.args.value) c.prepared-p.ensures.1)

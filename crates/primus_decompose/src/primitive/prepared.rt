@@ -1,0 +1,17 @@
+// A basis with its constants.
+ghost use Rattle.std.specs.Prelude.{◌≡◌};
+ghost use Rattle.primus_decompose.specs.Answers.{prepared_answer, WhereReady};
+
+use crate::primitive::basis::ApproxSignedBasis;
+use check_order::Refusal;
+use gadget_constants::PreparedBasis;
+
+impl ApproxSignedBasis {
+    // The basis with its constants, for many words. Refuses by 1 to 3, 5.
+    pub fn prepare(self) -> Result<PreparedBasis, Refusal>
+        ensures { (result ≡ prepared_answer self) × WhereReady result }
+    {
+        self.refusal()?;
+        Ok(self.prepared())
+    }
+}
