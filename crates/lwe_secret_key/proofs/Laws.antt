@@ -9,16 +9,15 @@ use native.Mathlib.Numerals.{add-one}
 use native.Mathlib.Omega.{arith}
 use lib.Dec.{eqb}
 use lib.IntN.{ℤ, pos, ◌+ℤ◌, ◌-ℤ◌, ◌*ℤ◌, +ℤ_idr, *ℤ-zero}
-use lib.ListN.{length, get_or, take, drop, length-drop, length-append, get_or-append, get_or-eq_default}
-use lib.Seq.{get_or_at, length-take-le}
+use lib.ListN.{length, get_or, take, drop, length-drop, get_or-eq_default}
+use lib.Seq.{length-take-le}
 use borrow.Author.Tests.{ne_eqb, eqb-false}
 use Rattle.scheme.specs.Numbers.{pick, residue, Cong, sum_to}
-use Rattle.scheme.specs.Lwe.{Key, Words, Signed, secret_of, key_length, words, signed, inner, body_of, encrypted, phase_of}
+use Rattle.scheme.specs.Lwe.{Key, Words, Signed, secret_of, key_length, inner, body_of, encrypted, phase_of}
 use Rattle.scheme.proofs.Residue.{cong_refl, cong_of_eq, cong_trans, cong_add, residue_cong}
 use Rattle.scheme.proofs.Lwe.{cong_sub, stands}
 use Rattle.lwe_secret_key.specs.Runs.{replaced}
 use Rattle.primus_reduce.specs.Ring.{modulo}
-use Rattle.primus_reduce.specs.Dot.{dot, dot_signed}
 
 -- the word that a reduction gives stands for its number
 pub modulo_stands : {q w : ℕ} → 0 < q → (z : ℤ) → w ≡ modulo q z → Cong q (pos w) z
@@ -28,14 +27,6 @@ modulo_stands {q} {w} h z e = rw (e ∙ plain) (stands h z)
     plain = rw (ne_eqb q 0 (λ f. omega arith))
 
 -- ---- inner products
-
-pub dot-inner : (x s : List ℕ) → dot x s ≡ inner (length x) x (words s)
-unfolding dot inner
-dot-inner x s = refl
-
-pub dot-inner-signed : (x : List ℕ) (s : List ℤ) → dot_signed x s ≡ inner (length x) x (signed s)
-unfolding dot_signed inner
-dot-inner-signed x s = refl
 
 past_end : (key : Key) (n : ℕ) → key_length key ≡ n → secret_of key n ≡ pos 0
 past_end (Words s) n e = ap pos (get_or-eq_default s 0 {n = n} (omega arith))
@@ -55,30 +46,19 @@ inner_body n x key e k =
 pub body_is : (q sum e p r b : ℕ) → 0 < q → r ≡ modulo q (pos sum +ℤ pos e) → b ≡ modulo q (pos r +ℤ pos p) → b ≡ residue (pos sum +ℤ pos e +ℤ pos p) q
 body_is q sum e p r b h f g = g ∙ rw (ne_eqb q 0 (λ z. omega arith)) (residue_cong h (cong_add (modulo_stands h (pos sum +ℤ pos e) f) (cong_refl q (pos p))))
 
-pub encrypted-is : (q : ℕ) (a : List ℕ) (s : ℕ → ℤ) (e : ℤ) (p sum w : ℕ) → 0 < q → sum ≡ modulo q (inner (length a) a s) → w ≡ modulo q e
+pub encrypted_is : (q : ℕ) (a : List ℕ) (s : ℕ → ℤ) (e : ℤ) (p sum w : ℕ) → 0 < q → sum ≡ modulo q (inner (length a) a s) → w ≡ modulo q e
     → a ++ (residue (pos sum +ℤ pos w +ℤ pos p) q ∷ []) ≡ encrypted q (length a) a s e (pos p)
 unfolding encrypted body_of
-encrypted-is q a s e p sum w h es ew =
+encrypted_is q a s e p sum w h es ew =
     ap (λ b. a ++ (b ∷ [])) (residue_cong h (cong_add (cong_add (modulo_stands h (inner (length a) a s) es) (modulo_stands h e ew)) (cong_refl q (pos p))))
 
-pub phase-is : (q n : ℕ) (x : List ℕ) (key : Key) (sum : ℕ) {r : ℕ} → 0 < q → key_length key ≡ n → length x ≡ n + 1
+pub phase_is : (q n : ℕ) (x : List ℕ) (key : Key) (sum : ℕ) {r : ℕ} → 0 < q → key_length key ≡ n → length x ≡ n + 1
     → sum ≡ modulo q (inner (length x) x (secret_of key)) → r ≡ modulo q (pos (get_or x n 0) -ℤ pos sum) → r ≡ phase_of q n x (secret_of key)
 unfolding phase_of
-phase-is q n x key sum h k l es er =
+phase_is q n x key sum h k l es er =
     er
     ∙ rw (ne_eqb q 0 (λ f. omega arith))
     (residue_cong h (cong_sub (cong_refl q (pos (get_or x n 0))) (cong_trans (modulo_stands h _ es) (cong_of_eq q (inner_body n x key l k)))))
-
--- the mask and the body, word by word
-module _ (a : List ℕ) (b : ℕ) where
-  pub made_length : length (a ++ (b ∷ [])) ≡ length a + 1
-  made_length = length-append a (b ∷ [])
-
-  pub made_mask : (i : ℕ) → i < length a → get_or a i 0 ≡ get_or (a ++ (b ∷ [])) i 0
-  made_mask i h = sym (get_or-append a (b ∷ []) 0 i h)
-
-  pub made_body : (i : ℕ) → i ≡ length a → b ≡ get_or (a ++ (b ∷ [])) i 0
-  made_body i e = sym (get_or_at a b [] 0 i (sym e))
 
 -- ---- a row of a run
 

@@ -2,10 +2,7 @@
 // `requires`, which the calls above meet after they have judged.
 #![tactic(auto)]
 
-mod form;
+mod key;
 mod steps;
 
-pub use form::{
-    KeyForm, error_residue, key_differs, key_or_words_refused, key_refused, key_residue,
-};
-pub use steps::{encrypt_row, encrypt_to, phase};
+pub use key::{LweSecretKeyRef, error_residue};
