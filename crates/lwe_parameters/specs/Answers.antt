@@ -1,16 +1,13 @@
 -- What parameters are judged by, and what their constructors answer.
-use Rattle.std.specs.Prelude.{Bool, List, [], ◌∷◌, ◌++◌, eqb}
-use Rattle.scheme.specs.Numbers.{pick}
-use Rattle.scheme.specs.Checks.{Check, row, refusal, modulus_fails, dimension_fails, plaintext_fails, small_fails, error_limit_fails}
+use Rattle.std.specs.Prelude.{ℕ, List, [], ◌∷◌, ◌++◌, Option, Some, None, Result}
+use Rattle.scheme.specs.Checks.{Check, row, modulus_fails, dimension_fails, plaintext_fails, small_fails, error_limit_fails}
 use Rattle.primus_reduce.specs.Ring.{meant, size_of}
+use Rattle.check_order.specs.declared.refusal.Refusal.{Refusal}
+use Rattle.check_order.specs.Answer.{answer}
 use Rattle.lwe_parameters.specs.declared.parameter.LweEncryptionParameters.{LweEncryptionParameters}
-use Rattle.lwe_parameters.specs.declared.parameter.LweEncryptionParametersAnswer.{LweEncryptionParametersAnswer}
-use Rattle.lwe_parameters.specs.declared.parameter.LweEncryptionParametersAnswer.TheVariants as E
 use Rattle.lwe_parameters.specs.declared.parameter.LwePhaseParameters.{LwePhaseParameters}
 use Rattle.lwe_parameters.specs.declared.parameter.LweDecryptionParameters.{LweDecryptionParameters}
 use Rattle.lwe_parameters.specs.declared.parameter.LweParameters.{LweParameters}
-use Rattle.lwe_parameters.specs.declared.parameter.LweParametersAnswer.{LweParametersAnswer}
-use Rattle.lwe_parameters.specs.declared.parameter.LweParametersAnswer.TheVariants as L
 
 -- what an opening takes of the parameters of an encryption: all but E, and for a phase no t
 abbrev pub phases_in : LweDecryptionParameters → LwePhaseParameters
@@ -38,20 +35,18 @@ abbrev pub encryption_parameters_rows : LweEncryptionParameters → List Check
 encryption_parameters_rows P =
     phase_parameters_rows (phases_of P) ++ row (error_limit_fails (size_of P.modulus) P.error_limit) 13 ∷ []
 
-abbrev pub encryption_parameters_answer : LweEncryptionParameters → LweEncryptionParametersAnswer
-encryption_parameters_answer P =
-    let r = refusal (encryption_parameters_rows P) in
-    pick (eqb r 0) (E.Accepted P) (E.Refused r)
+abbrev pub encryption_parameters_answer : LweEncryptionParameters → Result LweEncryptionParameters Refusal
+encryption_parameters_answer P = answer (encryption_parameters_rows P) P
 
 abbrev pub parameters_rows : LweParameters → List Check
 parameters_rows P =
     decryption_parameters_rows (decryption_of P) ++ row (error_limit_fails (size_of P.modulus) P.error_limit) 13 ∷ []
 
-abbrev pub parameters_answer : LweParameters → LweParametersAnswer
-parameters_answer P =
-    let r = refusal (parameters_rows P) in
-    pick (eqb r 0) (L.Accepted P) (L.Refused r)
+abbrev pub parameters_answer : LweParameters → Result LweParameters Refusal
+parameters_answer P = answer (parameters_rows P) P
 
--- for the steps, and no part of a promise: 2 and 6, with what a call says of 7 and 8: false where it takes no t
-abbrev pub judged_rows : Bool → Bool → LwePhaseParameters → List Check
-judged_rows plaintext small P = row plaintext 7 ∷ row small 8 ∷ phase_parameters_rows P
+-- for the steps, and no part of a promise: an opening that may take a plaintext modulus
+abbrev pub judged_rows : Option ℕ → LwePhaseParameters → List Check
+judged_rows None P = phase_parameters_rows P
+judged_rows (Some t) P =
+    decryption_parameters_rows (record { dimension = P.dimension; modulus = P.modulus; plaintext_modulus = t })

@@ -4,6 +4,5 @@
 mod parameter;
 
 pub use parameter::{
-    LweDecryptionParameters, LweEncryptionParameters, LweEncryptionParametersAnswer, LweParameters,
-    LweParametersAnswer, LwePhaseParameters,
+    LweDecryptionParameters, LweEncryptionParameters, LweParameters, LwePhaseParameters,
 };

@@ -1,12 +1,12 @@
 // What encryption is set up with. The constructors judge it at once; every call judges it again, with what it is lent.
 ghost use Rattle.std.specs.Prelude.{◌≡◌};
 ghost use Rattle.check_order.specs.Judged.{JudgesSizes};
-ghost use Rattle.lwe_parameters.specs.Answers.{phases_in, phases_of, decryption_of};
+ghost use Rattle.lwe_parameters.specs.Answers.{phases_in, phases_of, decryption_of, judged_rows};
 ghost use Rattle.lwe_parameters.specs.Answers.{phase_parameters_rows, decryption_parameters_rows};
 ghost use Rattle.lwe_parameters.specs.Answers.{encryption_parameters_rows, encryption_parameters_answer};
 ghost use Rattle.lwe_parameters.specs.Answers.{parameters_rows, parameters_answer};
 
-use check_order::Sizes;
+use check_order::{Refusal, Sizes};
 use primus_lattice::LweDimension;
 use primus_reduce::Modulus;
 
@@ -42,17 +42,41 @@ pub struct LweParameters {
     pub error_limit: u32,
 }
 
-// The parameters, or the first number that applies.
-#[derive(Clone, Copy)]
-pub enum LweEncryptionParametersAnswer {
-    Accepted(LweEncryptionParameters),
-    Refused(u32),
+// What phases need of a decryption's.
+impl From<LweDecryptionParameters> for LwePhaseParameters {
+    ghost from_gives = { λ params phases. phases ≡ phases_in params };
+
+    fn from(params: LweDecryptionParameters) -> LwePhaseParameters {
+        LwePhaseParameters {
+            dimension: params.dimension,
+            modulus: params.modulus,
+        }
+    }
 }
 
-#[derive(Clone, Copy)]
-pub enum LweParametersAnswer {
-    Accepted(LweParameters),
-    Refused(u32),
+// What phases need of an encryption's.
+impl From<LweEncryptionParameters> for LwePhaseParameters {
+    ghost from_gives = { λ params phases. phases ≡ phases_of params };
+
+    fn from(params: LweEncryptionParameters) -> LwePhaseParameters {
+        LwePhaseParameters {
+            dimension: params.dimension,
+            modulus: params.modulus,
+        }
+    }
+}
+
+// What a decryption needs of an encryption's.
+impl From<LweParameters> for LweDecryptionParameters {
+    ghost from_gives = { λ params opened. opened ≡ decryption_of params };
+
+    fn from(params: LweParameters) -> LweDecryptionParameters {
+        LweDecryptionParameters {
+            dimension: params.dimension,
+            modulus: params.modulus,
+            plaintext_modulus: params.plaintext_modulus,
+        }
+    }
 }
 
 impl LwePhaseParameters {
@@ -60,11 +84,21 @@ impl LwePhaseParameters {
     pub fn sizes(self) -> Sizes
         ensures { JudgesSizes (phase_parameters_rows self) result }
     {
-        let modulus = self.modulus;
-        let dimension = self.dimension;
         let mut s = Sizes::NONE;
-        s.modulus = checks::modulus_refused(modulus);
-        s.dimension = dimension.refused();
+        s.modulus = checks::modulus_refused(self.modulus);
+        s.dimension = self.dimension.refused();
+        s
+    }
+
+    // Those, and 7 and 8 where the call takes a plaintext modulus.
+    pub fn sizes_with(self, plaintext_modulus: Option<u32>) -> Sizes
+        ensures { JudgesSizes (judged_rows plaintext_modulus self) result }
+    {
+        let mut s = self.sizes();
+        if let Some(t) = plaintext_modulus {
+            s.plaintext = checks::plaintext_refused(t);
+            s.small = checks::small_refused(t, self.modulus);
+        }
         s
     }
 }
@@ -74,24 +108,7 @@ impl LweDecryptionParameters {
     pub fn sizes(self) -> Sizes
         ensures { JudgesSizes (decryption_parameters_rows self) result }
     {
-        let modulus = self.modulus;
-        let dimension = self.dimension;
-        let t = self.plaintext_modulus;
-        let mut s = Sizes::NONE;
-        s.modulus = checks::modulus_refused(modulus);
-        s.dimension = dimension.refused();
-        s.plaintext = checks::plaintext_refused(t);
-        s.small = checks::small_refused(t, modulus);
-        s
-    }
-
-    // What phases need of them.
-    pub fn phase_parameters(self) -> LwePhaseParameters
-        ensures { result ≡ phases_in self }
-    {
-        let dimension = self.dimension;
-        let modulus = self.modulus;
-        LwePhaseParameters { dimension, modulus }
+        LwePhaseParameters::from(self).sizes_with(Some(self.plaintext_modulus))
     }
 }
 
@@ -100,22 +117,9 @@ impl LweEncryptionParameters {
     pub fn sizes(self) -> Sizes
         ensures { JudgesSizes (encryption_parameters_rows self) result }
     {
-        let modulus = self.modulus;
-        let dimension = self.dimension;
-        let mut s = Sizes::NONE;
-        s.modulus = checks::modulus_refused(modulus);
-        s.dimension = dimension.refused();
-        s.error_limit = checks::error_limit_refused(self.error_limit, modulus);
+        let mut s = LwePhaseParameters::from(self).sizes();
+        s.error_limit = checks::error_limit_refused(self.error_limit, self.modulus);
         s
-    }
-
-    // What phases need of them.
-    pub fn phase_parameters(self) -> LwePhaseParameters
-        ensures { result ≡ phases_of self }
-    {
-        let dimension = self.dimension;
-        let modulus = self.modulus;
-        LwePhaseParameters { dimension, modulus }
     }
 
     // Refuses by 2, 6, 13.
@@ -123,7 +127,7 @@ impl LweEncryptionParameters {
         dimension: LweDimension,
         modulus: Modulus,
         error_limit: u32,
-    ) -> LweEncryptionParametersAnswer
+    ) -> Result<LweEncryptionParameters, Refusal>
         ensures { result ≡ encryption_parameters_answer
             (record { dimension = dimension; modulus = modulus; error_limit = error_limit }) }
     {
@@ -132,11 +136,8 @@ impl LweEncryptionParameters {
             modulus,
             error_limit,
         };
-        let r = params.sizes().first();
-        if r != 0 {
-            return LweEncryptionParametersAnswer::Refused(r);
-        }
-        LweEncryptionParametersAnswer::Accepted(params)
+        params.sizes().judge()?;
+        Ok(params)
     }
 }
 
@@ -145,15 +146,8 @@ impl LweParameters {
     pub fn sizes(self) -> Sizes
         ensures { JudgesSizes (parameters_rows self) result }
     {
-        let modulus = self.modulus;
-        let dimension = self.dimension;
-        let t = self.plaintext_modulus;
-        let mut s = Sizes::NONE;
-        s.modulus = checks::modulus_refused(modulus);
-        s.dimension = dimension.refused();
-        s.plaintext = checks::plaintext_refused(t);
-        s.small = checks::small_refused(t, modulus);
-        s.error_limit = checks::error_limit_refused(self.error_limit, modulus);
+        let mut s = LweDecryptionParameters::from(self).sizes();
+        s.error_limit = checks::error_limit_refused(self.error_limit, self.modulus);
         s
     }
 
@@ -163,7 +157,7 @@ impl LweParameters {
         modulus: Modulus,
         plaintext_modulus: u32,
         error_limit: u32,
-    ) -> LweParametersAnswer
+    ) -> Result<LweParameters, Refusal>
         ensures { result ≡ parameters_answer (record {
           dimension = dimension;
           modulus = modulus;
@@ -171,29 +165,13 @@ impl LweParameters {
           error_limit = error_limit;
         }) }
     {
-        let params = LweParameters {
+        let parameters = LweParameters {
             dimension,
             modulus,
             plaintext_modulus,
             error_limit,
         };
-        let r = params.sizes().first();
-        if r != 0 {
-            return LweParametersAnswer::Refused(r);
-        }
-        LweParametersAnswer::Accepted(params)
-    }
-
-    // What a decryption needs of them.
-    pub fn decryption_parameters(self) -> LweDecryptionParameters
-        ensures { result ≡ decryption_of self }
-    {
-        let dimension = self.dimension;
-        let modulus = self.modulus;
-        LweDecryptionParameters {
-            dimension,
-            modulus,
-            plaintext_modulus: self.plaintext_modulus,
-        }
+        parameters.sizes().judge()?;
+        Ok(parameters)
     }
 }

@@ -1,21 +1,15 @@
-use mathlib.Core.Path.{◌≡◌, refl, sym, ◌∙◌}
-use mathlib.Core.List.{List}
-use Rattle.scheme.specs.Checks.{Check, refusal, first_in}
-use Rattle.scheme.proofs.Order.{only, told, given}
-use Rattle.lwe_parameters.specs.declared.parameter.LweEncryptionParametersAnswer.TheVariants.{Refused}
-use Rattle.lwe_parameters.specs.Answers.{encryption_parameters_rows}
+use Rattle.std.proofs.Common.{refl}
+use Rattle.std.proofs.lemmas.Result.{err_from_is_err_and}
+use Rattle.scheme.specs.Checks.{first_in}
+use Rattle.check_order.proofs.Answers.{only_size, refused, served}
 use Rattle.lwe_parameters.proofs.parameter.LweEncryptionParameters.try_new.Goals as goal
 
-pub returns-then-r-ne0 : goal.returns-then-r-ne0
+pub returns-in_err-judge : goal.returns-in_err-judge
 unfolding first_in
-returns-then-r-ne0 c =
-    let rows : List Check = encryption_parameters_rows (record { dimension = c.args.dimension; modulus = c.args.modulus; error_limit = c.args.error_limit }) in
-    let number : c.first-r.result ≡ refusal rows = only rows (c.first-r.ensures rows c.sizes.ensures) refl in
-    told Refused _ _ _ number c.if-r-ne0.true
+returns-in_err-judge c =
+    let p = err_from_is_err_and c.from_residual.result c.from_residual.ensures.1 in
+    rw (p.1, p.2) (refused _ _ _ (only_size _ _ _ c.in_err-judge.ensures c.sizes.ensures refl))
 
 pub returns : goal.returns
 unfolding first_in
-returns c =
-    let rows : List Check = encryption_parameters_rows (record { dimension = c.args.dimension; modulus = c.args.modulus; error_limit = c.args.error_limit }) in
-    let number : c.first-r.result ≡ refusal rows = only rows (c.first-r.ensures rows c.sizes.ensures) refl in
-    given _ _ _ _ (sym number ∙ c.if-r-ne0.false) refl
+returns c = served _ _ _ (only_size _ _ _ c.in_ok-judge.ensures c.sizes.ensures refl) refl
