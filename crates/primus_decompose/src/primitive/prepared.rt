@@ -9,7 +9,8 @@ use gadget_constants::PreparedBasis;
 impl ApproxSignedBasis {
     // The basis with its constants, for many words. Refuses by 1 to 3, 5.
     pub fn prepare(self) -> Result<PreparedBasis, Refusal>
-        ensures { (result ≡ prepared_answer self) × WhereReady result }
+        ensures answered { result ≡ prepared_answer self }
+        ensures ready { WhereReady result }
     {
         self.refusal()?;
         Ok(self.prepared())
