@@ -8,16 +8,14 @@ ghost use Rattle.primus_reduce.specs.Ring.{size_of};
 ghost use Rattle.lwe_secret_key.specs.Key.{key_of};
 ghost use Rattle.lwe_public_rows.specs.Public.{plus_times, start_word, Public};
 
-use lwe_secret_key::{KeyForm, encrypt_row, error_residue};
+use lwe_secret_key::{LweSecretKeyRef, error_residue};
 use primus_reduce::Modulus;
 use std::cmp::Ordering;
 
 // n encryptions of 0, row i with mask i and error i.
 pub fn write_zeros(
     out: &mut [u32],
-    form: KeyForm,
-    words: &[u32],
-    signed: &[i32],
+    key: LweSecretKeyRef,
     masks: &[u32],
     n: usize,
     errors: &[i32],
@@ -25,10 +23,10 @@ pub fn write_zeros(
 )
     requires { (0 < size_of modulus) × (length masks.now ≡ n * n) × (length out.old ≡ n * (n + 1)) }
     ensures { out.new ≡ public_key (size_of modulus) n masks.now
-        (secret_of (key_of form words.now signed.now)) (errorsOf errors.now) }
+        (secret_of (key_of key.entry)) (errorsOf errors.now) }
 {
     for i in 0..n {
-        encrypt_row(out, form, words, signed, masks, n, errors, i, 0, modulus);
+        key.encrypt_row(out, masks, n, errors, i, 0, modulus);
     }
 }
 

@@ -6,4 +6,4 @@ use Rattle.lwe_secret_key.proofs.Runs.{Rows}
 use Rattle.lwe_public_rows.proofs.rows.write_zeros.Given as goal
 
 abbrev pub invariant-loop-i : goal.invariant-loop-i
-invariant-loop-i l = Rows (size_of l.modulus) l.n l.masks (secret_of (key_of l.form l.words l.signed)) (signed l.errors) (λ i. pos 0) l.n l.initial.out l.out l.i
+invariant-loop-i l = Rows (size_of l.modulus) l.n l.masks (secret_of (key_of l.key)) (signed l.errors) (λ i. pos 0) l.n l.initial.out l.out l.i
