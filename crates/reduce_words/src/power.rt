@@ -6,27 +6,24 @@ ghost use Rattle.scheme.specs.Modulus.{is_power, value_bits_of};
 pub fn is_power(q: u32) -> bool
     ensures { result ≡ is_power 32 q }
 {
-    let t = u32::trailing_zeros(q);
-    if t < 32 {
-        let p = 1u32 << t;
-        return p == q;
-    }
-    false
+    let t = q.trailing_zeros();
+    t < 32 && 1u32 << t == q
 }
 
 // The trailing zeros of a power of two, else the bit width.
+#[tactic(auto, unfolding(scheme::specs::Modulus::value_bits_of))]
 pub fn value_bits(q: u32) -> u32
     ensures { result ≡ value_bits_of 32 q }
 {
-    let zeros = u32::trailing_zeros(q);
-    let width = 32 - u32::leading_zeros(q);
     if is_power(q) {
-        return zeros;
+        q.trailing_zeros()
+    } else {
+        32 - q.leading_zeros()
     }
-    width
 }
 
 // x mod 2^bits: the mask has as many ones.
+#[tactic(auto, using(crate::proofs::Laws::mask_of_32))]
 pub(crate) fn low_bits(x: u64, bits: u32) -> u32
     requires { bits ≤ 32 }
     ensures { result ≡ x % 2 ^ bits }
@@ -40,12 +37,10 @@ pub fn quotient(x: u64, y: u64) -> u64
     requires { 0 < y }
     ensures { result ≡ x / y }
 {
-    let bits = u64::trailing_zeros(y);
-    if bits < 64 {
-        let power = 1u64 << bits;
-        if power == y {
-            return x >> bits;
-        }
+    let bits = y.trailing_zeros();
+    if bits < 64 && 1u64 << bits == y {
+        x >> bits
+    } else {
+        x / y
     }
-    x / y
 }
