@@ -26,13 +26,13 @@ pub fn embedding_for(centered: u32) -> PlaintextEmbedding
 pub fn basis_for(modulus: u32, base_log: u32, levels: u32) -> ApproxSignedBasis
     ensures { result ≡ basis_with (modulus_for modulus) base_log levels }
 {
-    ApproxSignedBasis::given(Modulus::from_number(modulus), base_log, levels)
+    ApproxSignedBasis::given(Modulus::from(modulus), base_log, levels)
 }
 
 pub fn codec_for(modulus: u32, t: u32) -> RoundedCodec
     ensures { (result.plaintext_modulus ≡ t) × (result.ciphertext_modulus ≡ modulus_for modulus) }
 {
-    RoundedCodec::given(t, Modulus::from_number(modulus))
+    RoundedCodec::given(t, Modulus::from(modulus))
 }
 
 pub fn phases_for(modulus: u32, n: usize) -> LwePhaseParameters
@@ -40,7 +40,7 @@ pub fn phases_for(modulus: u32, n: usize) -> LwePhaseParameters
 {
     LwePhaseParameters {
         dimension: LweDimension::given(n),
-        modulus: Modulus::from_number(modulus),
+        modulus: Modulus::from(modulus),
     }
 }
 
@@ -49,7 +49,7 @@ pub fn decryption_for(modulus: u32, n: usize, plaintext_modulus: u32) -> LweDecr
 {
     LweDecryptionParameters {
         dimension: LweDimension::given(n),
-        modulus: Modulus::from_number(modulus),
+        modulus: Modulus::from(modulus),
         plaintext_modulus,
     }
 }
@@ -59,7 +59,7 @@ pub fn encryption_for(modulus: u32, n: usize, error_limit: u32) -> LweEncryption
 {
     LweEncryptionParameters {
         dimension: LweDimension::given(n),
-        modulus: Modulus::from_number(modulus),
+        modulus: Modulus::from(modulus),
         error_limit,
     }
 }
@@ -74,7 +74,7 @@ pub fn messages_for(
 {
     LweParameters {
         dimension: LweDimension::given(n),
-        modulus: Modulus::from_number(modulus),
+        modulus: Modulus::from(modulus),
         plaintext_modulus,
         error_limit,
     }
@@ -89,5 +89,5 @@ pub fn switching_for(
 ) -> LweKeySwitchingParameters
     ensures { result ≡ switching_with modulus base_log levels n m }
 {
-    LweKeySwitchingParameters::given(Modulus::from_number(modulus), base_log, levels, n, m)
+    LweKeySwitchingParameters::given(Modulus::from(modulus), base_log, levels, n, m)
 }

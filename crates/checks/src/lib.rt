@@ -10,7 +10,7 @@ pub use check_lengths::{
     batch_count, batch_differs, ciphertext_differs, ciphertexts_differ, length_differs,
     lengths_differ, runs_differ,
 };
-use primus_reduce::{Modulus, magnitude};
+use primus_reduce::Modulus;
 
 // 2: an explicit modulus is below 4.
 pub fn modulus_refused(q: Modulus) -> bool
@@ -89,7 +89,7 @@ fn any_outside(s: &[i32], limit: u64) -> bool
 {
     let mut any = false;
     for c in s {
-        any |= limit <= magnitude(*c) as u64;
+        any |= limit <= c.unsigned_abs() as u64;
     }
     any
 }

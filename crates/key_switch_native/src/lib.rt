@@ -12,13 +12,12 @@ ghost use Rattle.key_switch_tile.specs.Tile.{tile, Level, Leveled, Place, Placed
 use gadget_constants::PreparedBasis;
 use gadget_digits::SignedDecomposer;
 use key_switch_tile::TILE;
-use primus_reduce::wrapping_mul;
 
 // x − d × y
 fn less(x: u32, d: u32, y: u32) -> u32
     ensures { result ≡ (x + (2 ^ 32 - (d * y) % 2 ^ 32)) % 2 ^ 32 }
 {
-    std::num::wrapping_sub_u32(x, wrapping_mul(d, y))
+    x.wrapping_sub(d.wrapping_mul(y))
 }
 
 // out − digit × entry

@@ -56,7 +56,7 @@ impl<'a> LweSecretKeyRef<'a> {
     {
         match self {
             LweSecretKeyRef::Encoded(words) => modulus.reduce_dot_product(mask, words),
-            LweSecretKeyRef::Signed(numbers) => modulus.reduce_dot_product_signed(mask, numbers),
+            LweSecretKeyRef::Signed(numbers) => modulus.reduce_dot_product(mask, numbers),
         }
     }
 

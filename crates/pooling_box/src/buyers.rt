@@ -77,7 +77,7 @@ fn with_secret(rt: &impl Print, h: Head, secret: &[u32], sent: &[u32], words: us
 // Not a secret of words, or of another modulus than the total: it would open to another total, with no refusal.
 fn is_other(h: Head, modulus: Modulus) -> bool {
     let given = h.modulus;
-    h.kind != 1 || given.number() != modulus.number()
+    h.kind != 1 || u32::from(given) != u32::from(modulus)
 }
 
 pub(crate) fn open(

@@ -27,7 +27,7 @@ fn is_other(h: Head, modulus: Modulus, plaintext_modulus: u32) -> bool
     if h.kind != 5 {
         return true;
     }
-    if given.number() != modulus.number() {
+    if u32::from(given) != u32::from(modulus) {
         return true;
     }
     h.plaintext_modulus != plaintext_modulus

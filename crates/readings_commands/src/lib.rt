@@ -40,7 +40,7 @@ fn basis_command(session: Session, operands: &[u8]) -> Turn
     if operands.len() < 6 {
         return end(session);
     }
-    let modulus = Modulus::from_number(little_endian::u32_at(operands, 0));
+    let modulus = Modulus::from(little_endian::u32_at(operands, 0));
     let log = little_endian::u8_at(operands, 4);
     let levels = little_endian::u8_at(operands, 5);
     readings_core::on_basis(session, ApproxSignedBasis::given(modulus, log, levels))

@@ -57,7 +57,7 @@ fn basis_line(b: ApproxSignedBasis, threshold: u32) -> BasisReply
     let levels = b.level_count();
     let modulus = b.modulus();
     BasisReply {
-        modulus: modulus.number(),
+        modulus: u32::from(modulus),
         value_bits: b.value_bits(),
         log_basis: log.get(),
         level_count: levels.get(),

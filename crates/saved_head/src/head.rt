@@ -31,7 +31,7 @@ pub struct Head {
 pub fn head_of(bytes: &[u8]) -> Head
     ensures { result ≡ head_of bytes.now }
 {
-    let modulus = Modulus::from_number(little_endian::u32_at(bytes, 12));
+    let modulus = Modulus::from(little_endian::u32_at(bytes, 12));
     Head {
         kind: Kind::from(little_endian::u32_at(bytes, 8)),
         modulus,
