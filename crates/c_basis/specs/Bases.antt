@@ -1,22 +1,16 @@
 -- The basis and a reading as rows of numbers, and what their calls judge: 1 to 3, 5, and 11 for the output.
-use Rattle.std.specs.Prelude.{◌≡◌, List, [], ◌∷◌, ◌++◌, ℕ, ◌%◌, ◌^◌, ℤ, length}
+use Rattle.std.specs.Prelude.{List, [], ◌∷◌, ◌++◌, ℕ, ◌%◌, ◌^◌, ℤ, length}
 use Rattle.scheme.specs.Modulus.{bits}
 use Rattle.scheme.specs.Basis.{dropped, bound}
 use Rattle.scheme.specs.Reading.{threshold, reading, rounding}
-use Rattle.scheme.specs.Checks.{Check, row, sizes, applies, first_in, length_fails, word_fails, Writes}
+use Rattle.scheme.specs.Checks.{Check, row, length_fails, word_fails, Writes}
 use Rattle.primus_reduce.specs.Ring.{meant, size_of}
-use Rattle.primus_decompose.specs.declared.error.ReadingAnswer.{ReadingAnswer}
-use Rattle.primus_decompose.specs.declared.error.ReadingAnswer.TheVariants.{Read, Refused}
 use Rattle.primus_decompose.specs.declared.primitive.basis.ApproxSignedBasis.{ApproxSignedBasis}
 use Rattle.primus_decompose.specs.Answers.{basis, rows, base_word}
 
 -- 1 to 3, 5, and an output of `count` numbers
 abbrev pub output_rows : ApproxSignedBasis → ℕ → ℕ → List Check
 output_rows b room count = rows b ++ row (length_fails room count) 11 ∷ []
-
--- r is the first of them
-abbrev pub sized : ApproxSignedBasis → ℕ → ℕ → ℕ → Type 0
-sized b room count r = r ≡ first_in (applies (output_rows b room count)) sizes
 
 -- k, B, L, d, H and T, where T is given
 abbrev pub constants : ApproxSignedBasis → ℕ → List ℕ
@@ -40,8 +34,3 @@ reading_rows b a room = rows b ++ row (length_fails room 2) 11 ∷ row (word_fai
 pub record WritesReading (b : ApproxSignedBasis) (a : ℕ) (before : List ℤ) (r : ℕ) (after : List ℤ) : Type 0 where
   pub writes :
       Writes (reading_rows b a (length before)) (reading (basis b) a ∷ rounding (basis b) a ∷ []) before r after
-
--- an answer is written, or where it is a refusal handed on
-abbrev pub Wrote : ReadingAnswer → List ℤ → ℕ → List ℤ → Type 0
-Wrote (Read x) before r after = (r ≡ 0) × (after ≡ x.reading ∷ x.error ∷ [])
-Wrote (Refused k) before r after = (r ≡ k) × (after ≡ before)

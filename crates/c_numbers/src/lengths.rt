@@ -1,85 +1,77 @@
-// How many words a caller allocates, or the first number that applies.
+// How many words a caller allocates, or the first refusal.
 ghost use Rattle.std.specs.Prelude.{◌≡◌, ◌+◌, ◌*◌};
-ghost use Rattle.scheme.specs.Checks.{refusal, dimension_fails};
-ghost use Rattle.checks.specs.Answers.{word_answer};
+ghost use Rattle.scheme.specs.Checks.{refusal};
+ghost use Rattle.check_order.specs.Answer.{code_of, answer};
 ghost use Rattle.key_switch_parameters.specs.Answers.{parameter_rows, key_words};
 ghost use Rattle.c_numbers.specs.Lengths.{dimension_rows, packed_rows};
 
-use check_order::Sizes;
-use checks::WordAnswer;
+use check_order::{Refusal, Sizes};
 use key_switch_parameters::LweKeySwitchingParameters;
 use primus_lattice::LweDimension;
 
 // 6.
-fn dimension_refused(n: usize) -> bool
-    ensures { result ≡ dimension_fails n }
-{
-    let dimension = LweDimension::given(n);
-    dimension.refused()
-}
-
-fn dimension_refusal(n: usize) -> u32
-    ensures { result ≡ refusal (dimension_rows n) }
+fn dimension_sizes(n: usize) -> Sizes
+    ensures { JudgesSizes (dimension_rows n) result }
 {
     let mut s = Sizes::NONE;
-    s.dimension = dimension_refused(n);
-    s.first()
+    s.dimension = LweDimension::given(n).refused();
+    s
+}
+
+// 6.
+fn dimension_refusal(n: usize) -> Result<(), Refusal>
+    ensures { code_of result ≡ refusal (dimension_rows n) }
+{
+    dimension_sizes(n).judge()
 }
 
 // 6, and 10 for more than n bodies.
-fn packed_refusal(n: usize, count: usize) -> u32
-    ensures { result ≡ refusal (packed_rows n count) }
+fn packed_refusal(n: usize, count: usize) -> Result<(), Refusal>
+    ensures { code_of result ≡ refusal (packed_rows n count) }
 {
-    let mut s = Sizes::NONE;
-    s.dimension = dimension_refused(n);
+    let mut s = dimension_sizes(n);
     s.input = n < count;
-    s.first()
+    s.judge()
 }
 
 // A ciphertext. Refuses by 6.
-pub fn ciphertext_words(n: usize) -> WordAnswer
-    ensures { result ≡ word_answer (dimension_rows n) (n + 1) }
+pub fn ciphertext_words(n: usize) -> Result<u32, Refusal>
+    ensures { result ≡ answer (dimension_rows n) (n + 1) }
 {
-    let r = dimension_refusal(n);
-    if r != 0 {
-        return WordAnswer::Refused(r);
-    }
-    WordAnswer::Word((n + 1) as u32)
+    dimension_refusal(n)?;
+    Ok((n + 1) as u32)
 }
 
 // A packed ciphertext with `count` bodies. Refuses by 6, 10.
-pub fn packed_words(n: usize, count: usize) -> WordAnswer
-    ensures { result ≡ word_answer (packed_rows n count) (n + count) }
+pub fn packed_words(n: usize, count: usize) -> Result<u32, Refusal>
+    ensures { result ≡ answer (packed_rows n count) (n + count) }
 {
-    let r = packed_refusal(n, count);
-    if r != 0 {
-        return WordAnswer::Refused(r);
-    }
-    WordAnswer::Word((n + count) as u32)
+    packed_refusal(n, count)?;
+    Ok((n + count) as u32)
 }
 
 // A public key. Refuses by 6.
-pub fn public_key_words(n: usize) -> WordAnswer
-    ensures { result ≡ word_answer (dimension_rows n) (n * (n + 1)) }
+pub fn public_key_words(n: usize) -> Result<u32, Refusal>
+    ensures { result ≡ answer (dimension_rows n) (n * (n + 1)) }
 {
-    let r = dimension_refusal(n);
-    if r != 0 {
-        return WordAnswer::Refused(r);
-    }
-    WordAnswer::Word((n * (n + 1)) as u32)
+    dimension_refusal(n)?;
+    Ok((n * (n + 1)) as u32)
+}
+
+// 1 to 3, 5, 6.
+fn switching_refusal(params: LweKeySwitchingParameters) -> Result<(), Refusal>
+    ensures { code_of result ≡ refusal (parameter_rows params) }
+{
+    params.sizes().judge()
 }
 
 // A switching key. Refuses by 1 to 3, 5, 6.
-pub fn switching_key_words(params: LweKeySwitchingParameters) -> WordAnswer
-    ensures { result ≡ word_answer (parameter_rows params) (key_words params) }
+pub fn switching_key_words(params: LweKeySwitchingParameters) -> Result<u32, Refusal>
+    ensures { result ≡ answer (parameter_rows params) (key_words params) }
 {
-    let s = params.sizes();
-    let r = s.first();
-    if r != 0 {
-        return WordAnswer::Refused(r);
-    }
+    switching_refusal(params)?;
     let n = params.input_dimension;
     let m = params.output_dimension;
     let entries = n.get() * params.level_count();
-    WordAnswer::Word((entries * (m.get() + 1)) as u32)
+    Ok((entries * (m.get() + 1)) as u32)
 }

@@ -4,7 +4,7 @@
 mod lengths;
 mod parameters;
 
-pub use c_answers::{LweOutcome, mark_number, or_zero, outcome, refused, word_number};
+pub use c_answers::{LweOutcome, code, mark_number, word_number};
 pub use c_basis::{write_basis, write_reading};
 pub use lengths::{ciphertext_words, packed_words, public_key_words, switching_key_words};
 pub use parameters::{

@@ -1,16 +1,17 @@
 // The rounded codec, for C. The promises are those of primus_encoding, of the moduli that the numbers give.
 ghost use Rattle.std.specs.Prelude.{◌≡◌};
 ghost use Rattle.primus_reduce.specs.Ring.{modulus_for};
-ghost use Rattle.primus_encoding.specs.Answers.{DecodesSlice, EncodesSlice};
+ghost use Rattle.primus_encoding.specs.Answers.{EncodesSlice, DecodesSlice};
 ghost use Rattle.c_numbers.specs.Numbers.{embedding_for};
-ghost use Rattle.c_numbers.specs.Service.{decode_number, encode_number};
+ghost use Rattle.c_numbers.specs.Service.{encode_number, decode_number};
 
 // encode(m), or 2^32 plus the first of 2, 7, 8, 16 that applies.
 #[unsafe(no_mangle)]
 pub extern "C" fn saigagalena_encode(modulus: u32, t: u32, centered: u32, message: u32) -> u64
     ensures { result ≡ encode_number modulus t centered message }
 {
-    saigagalena_codec::saigagalena_encode(modulus, t, centered, message)
+    let codec = c_numbers::codec_for(modulus, t);
+    c_numbers::word_number(codec.encode_value(message, c_numbers::embedding_for(centered)))
 }
 
 // decode(word), or 2^32 plus the first of 2, 7, 8, 14 that applies.
@@ -18,7 +19,8 @@ pub extern "C" fn saigagalena_encode(modulus: u32, t: u32, centered: u32, messag
 pub extern "C" fn saigagalena_decode(modulus: u32, t: u32, word: u32) -> u64
     ensures { result ≡ decode_number modulus t word }
 {
-    saigagalena_codec::saigagalena_decode(modulus, t, word)
+    let codec = c_numbers::codec_for(modulus, t);
+    c_numbers::word_number(codec.decode_value(word))
 }
 
 // encode of each message, in its place. Refuses by 2, 7, 8, 11, 16.
@@ -33,7 +35,9 @@ pub extern "C" fn saigagalena_encode_slice(
     ensures { EncodesSlice t (modulus_for modulus) (embedding_for centered) messages.now
         out.old result out.new }
 {
-    saigagalena_codec::saigagalena_encode_slice(modulus, t, centered, messages, out)
+    let codec = c_numbers::codec_for(modulus, t);
+    let embedding = c_numbers::embedding_for(centered);
+    c_numbers::code(codec.encode_slice_to(messages, out, embedding))
 }
 
 // decode of each word, in its place. Refuses by 2, 7, 8, 11, 14.
@@ -47,5 +51,6 @@ pub extern "C" fn saigagalena_decode_slice(
     ensures { DecodesSlice t (modulus_for modulus) words.now
         out.old result out.new }
 {
-    saigagalena_codec::saigagalena_decode_slice(modulus, t, words, out)
+    let codec = c_numbers::codec_for(modulus, t);
+    c_numbers::code(codec.decode_slice_to(words, out))
 }

@@ -1,10 +1,12 @@
 // Phases and decryption, for C. The promises are those of primus_lwe, of the parameters that the numbers give.
-ghost use Rattle.scheme.specs.Lwe.{Signed, Words};
-ghost use Rattle.primus_lwe.specs.Answers.{Decrypts, TakesPhase};
-ghost use Rattle.primus_lwe_batch.specs.Answers.{DecryptsBatch, TakesPhases};
-ghost use Rattle.primus_lwe_packed.specs.Answers.{DecryptsPacked, TakesPackedPhases};
-ghost use Rattle.c_numbers.specs.Numbers.{decryption_with, phases_with};
+ghost use Rattle.scheme.specs.Lwe.{Words, Signed};
+ghost use Rattle.primus_lwe.specs.Answers.{TakesPhase, Decrypts};
+ghost use Rattle.primus_lwe_batch.specs.Answers.{TakesPhases, DecryptsBatch};
+ghost use Rattle.primus_lwe_packed.specs.Answers.{TakesPackedPhases, DecryptsPacked};
+ghost use Rattle.c_numbers.specs.Numbers.{phases_with, decryption_with};
 ghost use Rattle.c_answers.specs.Service.{Tells, word_number};
+
+use lwe_secret_key::LweSecretKeyRef;
 
 // b − ⟨a, s⟩ modulo q, or 2^32 plus the first of 2, 6, 9, 10, 14 that applies.
 #[unsafe(no_mangle)]
@@ -17,7 +19,8 @@ pub extern "C" fn saigagalena_decrypt_phase(
     ensures { Tells word_number (TakesPhase (phases_with modulus n) (Words secret.now)
         ciphertext.now) result }
 {
-    saigagalena_decrypt::saigagalena_decrypt_phase(modulus, n, secret, ciphertext)
+    let params = c_numbers::phases_for(modulus, n);
+    c_numbers::word_number(primus_lwe::decrypt_phase(params, LweSecretKeyRef::Encoded(secret), ciphertext))
 }
 
 // saigagalena_decrypt_phase under a signed key.
@@ -31,7 +34,8 @@ pub extern "C" fn saigagalena_decrypt_phase_signed(
     ensures { Tells word_number (TakesPhase (phases_with modulus n) (Signed secret.now)
         ciphertext.now) result }
 {
-    saigagalena_decrypt::saigagalena_decrypt_phase_signed(modulus, n, secret, ciphertext)
+    let params = c_numbers::phases_for(modulus, n);
+    c_numbers::word_number(primus_lwe::decrypt_phase(params, LweSecretKeyRef::Signed(secret), ciphertext))
 }
 
 // decode of the phase, or 2^32 plus the first of 2, 6, 7, 8, 9, 10, 14 that applies.
@@ -46,7 +50,8 @@ pub extern "C" fn saigagalena_decrypt_message(
     ensures { Tells word_number (Decrypts (decryption_with modulus n t) (Words secret.now)
         ciphertext.now) result }
 {
-    saigagalena_decrypt::saigagalena_decrypt_message(modulus, n, t, secret, ciphertext)
+    let params = c_numbers::decryption_for(modulus, n, t);
+    c_numbers::word_number(primus_lwe::decrypt_message(params, LweSecretKeyRef::Encoded(secret), ciphertext))
 }
 
 // saigagalena_decrypt_message under a signed key.
@@ -61,7 +66,8 @@ pub extern "C" fn saigagalena_decrypt_message_signed(
     ensures { Tells word_number (Decrypts (decryption_with modulus n t) (Signed secret.now)
         ciphertext.now) result }
 {
-    saigagalena_decrypt::saigagalena_decrypt_message_signed(modulus, n, t, secret, ciphertext)
+    let params = c_numbers::decryption_for(modulus, n, t);
+    c_numbers::word_number(primus_lwe::decrypt_message(params, LweSecretKeyRef::Signed(secret), ciphertext))
 }
 
 // The phase of each ciphertext. Refuses by 2, 6, 9, 10, 11, 14.
@@ -76,7 +82,9 @@ pub extern "C" fn saigagalena_decrypt_phase_batch(
     ensures { TakesPhases (phases_with modulus n) (Words secret.now)
         input.now out.old result out.new }
 {
-    saigagalena_decrypt::saigagalena_decrypt_phase_batch(modulus, n, secret, input, out)
+    let params = c_numbers::phases_for(modulus, n);
+    let secret = LweSecretKeyRef::Encoded(secret);
+    c_numbers::code(primus_lwe_batch::decrypt_phase_batch_to(params, secret, input, out))
 }
 
 // decode of the phase of each ciphertext. Refuses by 2, 6, 7, 8, 9, 10, 11, 14.
@@ -92,7 +100,9 @@ pub extern "C" fn saigagalena_decrypt_message_batch(
     ensures { DecryptsBatch (decryption_with modulus n t) (Words secret.now)
         input.now out.old result out.new }
 {
-    saigagalena_decrypt::saigagalena_decrypt_message_batch(modulus, n, t, secret, input, out)
+    let params = c_numbers::decryption_for(modulus, n, t);
+    let secret = LweSecretKeyRef::Encoded(secret);
+    c_numbers::code(primus_lwe_batch::decrypt_message_batch_to(params, secret, input, out))
 }
 
 // The phase of each body. Refuses by 2, 6, 9, 10, 11, 14.
@@ -107,7 +117,8 @@ pub extern "C" fn saigagalena_decrypt_phase_packed(
     ensures { TakesPackedPhases (phases_with modulus n) secret.now
         input.now out.old result out.new }
 {
-    saigagalena_decrypt::saigagalena_decrypt_phase_packed(modulus, n, secret, input, out)
+    let params = c_numbers::phases_for(modulus, n);
+    c_numbers::code(primus_lwe_packed::decrypt_phase_packed(params, secret, input, out))
 }
 
 // decode of the phase of each body. Refuses by 2, 6, 7, 8, 9, 10, 11, 14.
@@ -123,5 +134,6 @@ pub extern "C" fn saigagalena_decrypt_message_packed(
     ensures { DecryptsPacked (decryption_with modulus n t) secret.now
         input.now out.old result out.new }
 {
-    saigagalena_decrypt::saigagalena_decrypt_message_packed(modulus, n, t, secret, input, out)
+    let params = c_numbers::decryption_for(modulus, n, t);
+    c_numbers::code(primus_lwe_packed::decrypt_message_packed(params, secret, input, out))
 }

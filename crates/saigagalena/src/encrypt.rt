@@ -1,12 +1,13 @@
 // Encryption under a secret key, for C. The promises are those of primus_lwe, of the parameters that the numbers give.
-ghost use Rattle.scheme.specs.Lwe.{Signed, Words};
+ghost use Rattle.scheme.specs.Lwe.{Words, Signed};
 ghost use Rattle.primus_lwe.specs.Answers.{Encrypts, EncryptsMessage};
 ghost use Rattle.primus_lwe_batch.specs.Answers.{EncryptsBatch};
 ghost use Rattle.primus_lwe_packed.specs.Answers.{EncryptsPacked, EncryptsPackedMessages};
 ghost use Rattle.c_numbers.specs.Numbers.{embedding_for, encryption_with, messages_with};
 ghost use Rattle.c_answers.specs.Service.{Tells, outcome_of};
 
-use c_answers::LweOutcome;
+use c_numbers::LweOutcome;
+use lwe_secret_key::LweSecretKeyRef;
 
 // b = ⟨a, s⟩ + e + p modulo q; out holds (a, b), with tally E. Refuses by 2, 6, 9, 11, 12, 13, 14, 15.
 #[unsafe(no_mangle)]
@@ -24,16 +25,9 @@ pub extern "C" fn saigagalena_encrypt_encoded(
         (Words secret.now) mask.now errors.now plaintext out.old x
         out.new) result }
 {
-    saigagalena_encrypt::saigagalena_encrypt_encoded(
-        modulus,
-        n,
-        error_limit,
-        secret,
-        mask,
-        errors,
-        plaintext,
-        out,
-    )
+    let params = c_numbers::encryption_for(modulus, n, error_limit);
+    let secret = LweSecretKeyRef::Encoded(secret);
+    LweOutcome::from(primus_lwe::encrypt_encoded_to(params, secret, mask, errors, plaintext, out))
 }
 
 // saigagalena_encrypt_encoded under a signed key.
@@ -52,16 +46,11 @@ pub extern "C" fn saigagalena_encrypt_encoded_signed(
         (Signed secret.now) mask.now errors.now plaintext out.old x
         out.new) result }
 {
-    saigagalena_encrypt::saigagalena_encrypt_encoded_signed(
-        modulus,
-        n,
-        error_limit,
-        secret,
-        mask,
-        errors,
-        plaintext,
-        out,
-    )
+    let params = c_numbers::encryption_for(modulus, n, error_limit);
+    let secret = LweSecretKeyRef::Signed(secret);
+    LweOutcome::from(primus_lwe::encrypt_encoded_to(
+        params, secret, mask, errors, plaintext, out,
+    ))
 }
 
 // An encryption of encode(m), with tally E. Refuses by 2, 6, 7, 8, 9, 11, 12, 13, 14, 15, 16.
@@ -82,18 +71,16 @@ pub extern "C" fn saigagalena_encrypt_message(
         (embedding_for centered) (Words secret.now) mask.now errors.now message
         out.old x out.new) result }
 {
-    saigagalena_encrypt::saigagalena_encrypt_message(
-        modulus,
-        n,
-        t,
-        error_limit,
-        centered,
-        secret,
+    let params = c_numbers::messages_for(modulus, n, t, error_limit);
+    LweOutcome::from(primus_lwe::encrypt_message_to(
+        params,
+        c_numbers::embedding_for(centered),
+        LweSecretKeyRef::Encoded(secret),
         mask,
         errors,
         message,
         out,
-    )
+    ))
 }
 
 // saigagalena_encrypt_message under a signed key.
@@ -114,18 +101,16 @@ pub extern "C" fn saigagalena_encrypt_message_signed(
         (embedding_for centered) (Signed secret.now) mask.now errors.now message
         out.old x out.new) result }
 {
-    saigagalena_encrypt::saigagalena_encrypt_message_signed(
-        modulus,
-        n,
-        t,
-        error_limit,
-        centered,
-        secret,
+    let params = c_numbers::messages_for(modulus, n, t, error_limit);
+    LweOutcome::from(primus_lwe::encrypt_message_to(
+        params,
+        c_numbers::embedding_for(centered),
+        LweSecretKeyRef::Signed(secret),
         mask,
         errors,
         message,
         out,
-    )
+    ))
 }
 
 // An encryption of encode(m) for each message, each with tally E. Refuses by 2, 6, 7, 8, 9, 11, 12, 13, 14, 15, 16.
@@ -146,18 +131,16 @@ pub extern "C" fn saigagalena_encrypt_message_batch(
         (embedding_for centered) (Words secret.now) masks.now errors.now
         messages.now out.old x out.new) result }
 {
-    saigagalena_encrypt::saigagalena_encrypt_message_batch(
-        modulus,
-        n,
-        t,
-        error_limit,
-        centered,
-        secret,
+    let params = c_numbers::messages_for(modulus, n, t, error_limit);
+    LweOutcome::from(primus_lwe_batch::encrypt_message_batch_to(
+        params,
+        c_numbers::embedding_for(centered),
+        LweSecretKeyRef::Encoded(secret),
         masks,
         errors,
         messages,
         out,
-    )
+    ))
 }
 
 // n mask words, then a body for each plaintext; no tally. Refuses by 2, 6, 9, 10, 11, 12, 13, 14, 15.
@@ -176,16 +159,10 @@ pub extern "C" fn saigagalena_encrypt_encoded_packed(
         mask.now errors.now plaintexts.now out.old x
         out.new) result }
 {
-    saigagalena_encrypt::saigagalena_encrypt_encoded_packed(
-        modulus,
-        n,
-        error_limit,
-        secret,
-        mask,
-        errors,
-        plaintexts,
-        out,
-    )
+    let params = c_numbers::encryption_for(modulus, n, error_limit);
+    LweOutcome::from(primus_lwe_packed::encrypt_encoded_packed(
+        params, secret, mask, errors, plaintexts, out,
+    ))
 }
 
 // n mask words, then a body for each message; no tally. Refuses by 2, 6, 7, 8, 9, 10, 11, 12, 13, 14, 15, 16.
@@ -206,16 +183,14 @@ pub extern "C" fn saigagalena_encrypt_message_packed(
         (embedding_for centered) secret.now mask.now errors.now messages.now
         out.old x out.new) result }
 {
-    saigagalena_encrypt::saigagalena_encrypt_message_packed(
-        modulus,
-        n,
-        t,
-        error_limit,
-        centered,
+    let params = c_numbers::messages_for(modulus, n, t, error_limit);
+    LweOutcome::from(primus_lwe_packed::encrypt_message_packed(
+        params,
+        c_numbers::embedding_for(centered),
         secret,
         mask,
         errors,
         messages,
         out,
-    )
+    ))
 }

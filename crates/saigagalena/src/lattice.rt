@@ -2,12 +2,14 @@
 ghost use Rattle.std.specs.Prelude.{◌≡◌};
 ghost use Rattle.primus_reduce.specs.Ring.{modulus_for};
 ghost use Rattle.lwe_tag.specs.Answers.{mark_answer};
-ghost use Rattle.primus_lattice.specs.Answers.{Adds, given};
+ghost use Rattle.primus_lattice.specs.Answers.{given, Adds};
 ghost use Rattle.lwe_samples.specs.Answers.{Extracts};
-ghost use Rattle.c_answers.specs.Service.{Tells, mark_number, outcome_of};
+ghost use Rattle.c_answers.specs.Service.{Tells, outcome_of, mark_number};
 
-use c_answers::LweOutcome;
-use lwe_tag::LweTag;
+use c_numbers::LweOutcome;
+use lwe_samples::extract_lwe_at;
+use primus_lattice::{LweDimension, LweTag, add_assign};
+use primus_reduce::Modulus;
 
 // x + y modulo q, word by word, in x, and the tag of the sum. Refuses by 2, 6, 10, 14, 17.
 #[unsafe(no_mangle)]
@@ -22,7 +24,14 @@ pub extern "C" fn saigagalena_add(
     ensures { Tells outcome_of (λ z. Adds (modulus_for modulus) (given n) x.old x_tag
         y.now y_tag z x.new) result }
 {
-    saigagalena_lattice::saigagalena_add(modulus, n, x, x_tag, y, y_tag)
+    LweOutcome::from(add_assign(
+        Modulus::from_number(modulus),
+        LweDimension::given(n),
+        x,
+        x_tag,
+        y,
+        y_tag,
+    ))
 }
 
 // Body `index` of a packed ciphertext as a ciphertext of one message; no tally. Refuses by 2, 6, 10, 11, 14.
@@ -37,7 +46,13 @@ pub extern "C" fn saigagalena_extract(
     ensures { Tells outcome_of (λ x. Extracts (modulus_for modulus) (given n) input.now index
         out.old x out.new) result }
 {
-    saigagalena_lattice::saigagalena_extract(modulus, n, input, index, out)
+    LweOutcome::from(extract_lwe_at(
+        Modulus::from_number(modulus),
+        LweDimension::given(n),
+        input,
+        index,
+        out,
+    ))
 }
 
 // The tag of saved data: any number; 2^64 − 1 is no tally. It is the sender's word, and the calls judge it by 17.
@@ -45,7 +60,7 @@ pub extern "C" fn saigagalena_extract(
 pub extern "C" fn saigagalena_saved_tag(tally: u64) -> LweTag
     ensures { result ≡ record { tally = tally } }
 {
-    saigagalena_lattice::saigagalena_saved_tag(tally)
+    LweTag::with_tally(tally)
 }
 
 // 1 where 2t × tally + t < q, else 0; or 2^32 plus the first of 2, 7, 8, 17 that applies.
@@ -53,5 +68,5 @@ pub extern "C" fn saigagalena_saved_tag(tally: u64) -> LweTag
 pub extern "C" fn saigagalena_is_good(modulus: u32, t: u32, tag: LweTag) -> u64
     ensures { result ≡ mark_number (mark_answer tag (modulus_for modulus) t) }
 {
-    saigagalena_lattice::saigagalena_is_good(modulus, t, tag)
+    c_numbers::mark_number(tag.is_good(Modulus::from_number(modulus), t))
 }

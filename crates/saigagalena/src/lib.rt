@@ -1,5 +1,4 @@
-// The static library of the C service: an export for each call of include/saigagalena.h, which calls the function of that name in the crate of its
-// subject and promises the same. A crate is a library or a static library, so the calls themselves stand in saigagalena_basis to saigagalena_switch.
+// The static library of the C service: the calls of include/saigagalena.h, by subject. Each promises what the call promises that it wraps.
 #![tactic(auto)]
 
 mod basis;
@@ -7,5 +6,6 @@ mod codec;
 mod decrypt;
 mod encrypt;
 mod lattice;
+mod lengths;
 mod public_key;
 mod switch;

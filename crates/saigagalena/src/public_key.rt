@@ -1,10 +1,12 @@
 // The public key, for C. The promises are those of primus_lwe_public_key, of the parameters that the numbers give.
-ghost use Rattle.scheme.specs.Lwe.{Signed, Words};
-ghost use Rattle.primus_lwe_public_key.specs.Answers.{EncryptsPublic, EncryptsPublicMessage, GeneratesPublicKey};
+ghost use Rattle.scheme.specs.Lwe.{Words, Signed};
+ghost use Rattle.primus_lwe_public_key.specs.Answers.{GeneratesPublicKey, EncryptsPublic, EncryptsPublicMessage};
 ghost use Rattle.c_numbers.specs.Numbers.{embedding_for, encryption_with, messages_with};
 ghost use Rattle.c_answers.specs.Service.{Tells, outcome_of};
 
-use c_answers::LweOutcome;
+use c_numbers::LweOutcome;
+use lwe_secret_key::LweSecretKeyRef;
+use primus_lwe_public_key::LwePublicKey;
 
 // n encryptions of 0 in out. Refuses by 2, 6, 9, 11, 12, 13, 14, 15.
 #[unsafe(no_mangle)]
@@ -20,15 +22,9 @@ pub extern "C" fn saigagalena_public_key_generate(
     ensures { GeneratesPublicKey (encryption_with modulus n error_limit) (Words secret.now)
         masks.now errors.now out.old result out.new }
 {
-    saigagalena_public_key::saigagalena_public_key_generate(
-        modulus,
-        n,
-        error_limit,
-        secret,
-        masks,
-        errors,
-        out,
-    )
+    let params = c_numbers::encryption_for(modulus, n, error_limit);
+    let secret = LweSecretKeyRef::Encoded(secret);
+    c_numbers::code(LwePublicKey::generate(params, secret, masks, errors, out))
 }
 
 // saigagalena_public_key_generate under a signed key.
@@ -45,15 +41,9 @@ pub extern "C" fn saigagalena_public_key_generate_signed(
     ensures { GeneratesPublicKey (encryption_with modulus n error_limit) (Signed secret.now)
         masks.now errors.now out.old result out.new }
 {
-    saigagalena_public_key::saigagalena_public_key_generate_signed(
-        modulus,
-        n,
-        error_limit,
-        secret,
-        masks,
-        errors,
-        out,
-    )
+    let params = c_numbers::encryption_for(modulus, n, error_limit);
+    let secret = LweSecretKeyRef::Signed(secret);
+    c_numbers::code(LwePublicKey::generate(params, secret, masks, errors, out))
 }
 
 // An encryption of p from n + 1 errors and n coefficients; no tally. Refuses by 2, 6, 9, 11, 12, 13, 14, 15.
@@ -71,16 +61,15 @@ pub extern "C" fn saigagalena_public_key_encrypt_encoded(
     ensures { Tells outcome_of (λ x. EncryptsPublic (encryption_with modulus n error_limit) key.now
         errors.now coefficients.now plaintext out.old x out.new) result }
 {
-    saigagalena_public_key::saigagalena_public_key_encrypt_encoded(
-        modulus,
-        n,
-        error_limit,
+    let params = c_numbers::encryption_for(modulus, n, error_limit);
+    LweOutcome::from(LwePublicKey::encrypt_encoded_to(
+        params,
         key,
         errors,
         coefficients,
         plaintext,
         out,
-    )
+    ))
 }
 
 // An encryption of encode(m) under the public key; no tally. Refuses by 2, 6, 7, 8, 9, 11, 12, 13, 14, 15, 16.
@@ -101,16 +90,14 @@ pub extern "C" fn saigagalena_public_key_encrypt_message(
         (embedding_for centered) key.now errors.now coefficients.now message
         out.old x out.new) result }
 {
-    saigagalena_public_key::saigagalena_public_key_encrypt_message(
-        modulus,
-        n,
-        t,
-        error_limit,
-        centered,
+    let params = c_numbers::messages_for(modulus, n, t, error_limit);
+    LweOutcome::from(LwePublicKey::encrypt_message_to(
+        params,
+        c_numbers::embedding_for(centered),
         key,
         errors,
         coefficients,
         message,
         out,
-    )
+    ))
 }

@@ -1,11 +1,13 @@
 // Key switching, for C. The promises are those of key_switch, of the parameters that the numbers give.
-ghost use Rattle.scheme.specs.Lwe.{Signed, Words};
+ghost use Rattle.scheme.specs.Lwe.{Words, Signed};
 ghost use Rattle.key_switch_key.specs.Answers.{Generates};
 ghost use Rattle.key_switch.specs.Answers.{Switches, SwitchesBatch};
 ghost use Rattle.c_numbers.specs.Numbers.{switching_with};
 ghost use Rattle.c_answers.specs.Service.{Tells, outcome_of};
 
-use c_answers::LweOutcome;
+use c_numbers::LweOutcome;
+use key_switch_key::LweKeySwitchingKey;
+use lwe_secret_key::LweSecretKeyRef;
 
 // Entry (i, j) encrypts sᵢ × weight j under the output key. Refuses by 1 to 3, 5, 6, 9, 11, 12, 13, 14, 15.
 #[unsafe(no_mangle)]
@@ -26,19 +28,17 @@ pub extern "C" fn saigagalena_switching_key_generate(
         (Words input_key.now) output_key.now masks.now
         errors.now out.old result out.new }
 {
-    saigagalena_switch::saigagalena_switching_key_generate(
-        modulus,
-        base_log,
-        levels,
-        n,
-        m,
+    let params = c_numbers::switching_for(modulus, base_log, levels, n, m);
+    let input_key = LweSecretKeyRef::Encoded(input_key);
+    c_numbers::code(LweKeySwitchingKey::generate(
+        params,
         error_limit,
         input_key,
         output_key,
         masks,
         errors,
         out,
-    )
+    ))
 }
 
 // saigagalena_switching_key_generate from an input key of signed numbers.
@@ -60,19 +60,17 @@ pub extern "C" fn saigagalena_switching_key_generate_signed(
         (Signed input_key.now) output_key.now masks.now
         errors.now out.old result out.new }
 {
-    saigagalena_switch::saigagalena_switching_key_generate_signed(
-        modulus,
-        base_log,
-        levels,
-        n,
-        m,
+    let params = c_numbers::switching_for(modulus, base_log, levels, n, m);
+    let input_key = LweSecretKeyRef::Signed(input_key);
+    c_numbers::code(LweKeySwitchingKey::generate(
+        params,
         error_limit,
         input_key,
         output_key,
         masks,
         errors,
         out,
-    )
+    ))
 }
 
 // (0, b) minus the sum of digit(i, j) × entry(i, j) modulo q; no tally. Refuses by 1 to 3, 5, 6, 9, 10, 11, 14.
@@ -90,7 +88,8 @@ pub extern "C" fn saigagalena_key_switch(
     ensures { Tells outcome_of (λ x. Switches (switching_with modulus base_log levels n m) key.now
         input.now out.old x out.new) result }
 {
-    saigagalena_switch::saigagalena_key_switch(modulus, base_log, levels, n, m, key, input, out)
+    let params = c_numbers::switching_for(modulus, base_log, levels, n, m);
+    LweOutcome::from(key_switch::key_switch_to(params, key, input, out))
 }
 
 // Each row by itself, none with a tally. Refuses by 1 to 3, 5, 6, 9, 10, 11, 14.
@@ -108,7 +107,6 @@ pub extern "C" fn saigagalena_key_switch_batch(
     ensures { Tells outcome_of (λ x. SwitchesBatch (switching_with modulus base_log levels n m)
         key.now input.now out.old x out.new) result }
 {
-    saigagalena_switch::saigagalena_key_switch_batch(
-        modulus, base_log, levels, n, m, key, input, out,
-    )
+    let params = c_numbers::switching_for(modulus, base_log, levels, n, m);
+    LweOutcome::from(key_switch::key_switch_batch_to(params, key, input, out))
 }
