@@ -42,15 +42,13 @@ pub fn write_basis(out: &mut [u32], basis: ApproxSignedBasis) -> Result<(), Refu
 }
 
 // The reading and ε of a word. Refuses by 1 to 3, 5, 11, 14.
-pub fn write_reading(
-    out: &mut [i64],
-    basis: ApproxSignedBasis,
-    word: u32,
-) -> Result<(), Refusal>
+pub fn write_reading(out: &mut [i64], basis: ApproxSignedBasis, word: u32) -> Result<(), Refusal>
     ensures { WritesReading basis word out.old (code_of result) out.new }
 {
     sizes_refusal(basis, out.len(), 2)?;
     let x = basis.reading(word)?;
-    out.copy_from_slice(&[x.reading, x.error]);
+    let reading = x.reading;
+    let error = x.error;
+    out.copy_from_slice(&[reading, error]);
     Ok(())
 }

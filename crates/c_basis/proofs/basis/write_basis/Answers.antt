@@ -1,48 +1,25 @@
-use mathlib.Core.Path.{◌≡◌, refl, sym, ap, ◌∙◌}
-use mathlib.Core.List.{[], ◌∷◌}
-use Prim.Native.Nat.{ℕ}
-use lib.ListN.{length}
-use borrow.Author.Tests.{eq-eqb}
-use Rattle.scheme.specs.Reading.{threshold}
-use Rattle.scheme.specs.Checks.{refusal, row, length_fails, first_in}
-use Rattle.scheme.proofs.Checks.{length_ok}
-use Rattle.scheme.proofs.Order.{passed, passed_part, only, refused, done}
-use Rattle.primus_decompose.specs.declared.primitive.basis.ApproxSignedBasis.{ApproxSignedBasis}
-use Rattle.primus_decompose.specs.Answers.{basis, rows, threshold_answer}
-use Rattle.primus_encoding.specs.Answers.{or_zero}
-use Rattle.c_basis.specs.Bases.{sized, output_rows, constants}
+use Rattle.std.proofs.Common.{length, sym, ap, ◌∙◌}
+use Rattle.std.proofs.lemmas.Result.{err_from_is_err_and}
+use Rattle.scheme.proofs.Order.{done}
+use Rattle.check_order.proofs.Answers.{unwritten}
+use Rattle.c_basis.specs.Bases.{constants}
+use Rattle.c_basis.proofs.Outputs.{fits, threshold_given, threshold_is}
 use Rattle.c_basis.proofs.basis.write_basis.Goals as goal
 
-module _ (b : ApproxSignedBasis) (room : ℕ) where
-  -- no values are judged
-  whole : {r : ℕ} → sized b room 6 r → r ≡ refusal (output_rows b room 6)
-  unfolding first_in
-  whole e = only (output_rows b room 6) e refl
+pub returns-in_err-sizes_refusal : goal.returns-in_err-sizes_refusal
+returns-in_err-sizes_refusal c =
+    let p = err_from_is_err_and c.from_residual.result c.from_residual.ensures.1 in
+    rw (p.1, p.2) (record { writes = unwritten _ c.in_err-sizes_refusal.ensures })
 
-  fits : refusal (output_rows b room 6) ≡ 0 → room ≡ 6
-  fits e = length_ok room 6 (passed (output_rows b room 6) e 11 tt)
+pub returns-in_err-threshold : goal.returns-in_err-threshold
+returns-in_err-threshold c =
+    absurd (threshold_given c.args.basis (length c.args.out.now) 6 (sym c.in_ok-sizes_refusal.ensures) _ c.in_err-threshold.ensures)
 
-  told : refusal (output_rows b room 6) ≡ 0 → or_zero (threshold_answer b) ≡ threshold (basis b)
-  told e = rw (eq-eqb (refusal (rows b)) 0 (passed_part (rows b) (row (length_fails room 6) 11 ∷ []) e))
-
-pub returns-then-r-ne0 : goal.returns-then-r-ne0
-returns-then-r-ne0 c =
-    let number : c.sizes_refusal-r.result ≡ refusal (output_rows c.args.basis (length c.args.out.now) 6) = whole c.args.basis (length c.args.out.now) c.sizes_refusal-r.ensures in
-    record { writes = refused number c.if-r-ne0.true }
-
-pub write_constants-requires : goal.write_constants-requires
-write_constants-requires c =
-    let number : c.sizes_refusal-r.result ≡ refusal (output_rows c.args.basis (length c.args.out.now) 6) = whole c.args.basis (length c.args.out.now) c.sizes_refusal-r.ensures in
-    let none : refusal (output_rows c.args.basis (length c.args.out.now) 6) ≡ 0 = sym number ∙ c.if-r-ne0.false in
-    fits c.args.basis (length c.args.out.now) none
+pub copy_from_slice-requires : goal.copy_from_slice-requires
+copy_from_slice-requires c =
+    fits c.args.basis (length c.args.out.now) 6 (sym c.in_ok-sizes_refusal.ensures) ∙ sym (ap length c.constants.ensures)
 
 pub returns : goal.returns
 returns c =
-    let number : c.sizes_refusal-r.result ≡ refusal (output_rows c.args.basis (length c.args.out.now) 6) = whole c.args.basis (length c.args.out.now) c.sizes_refusal-r.ensures in
-    let none : refusal (output_rows c.args.basis (length c.args.out.now) 6) ≡ 0 = sym number ∙ c.if-r-ne0.false in
-    record {
-      writes =
-          done none
-          (c.write_constants.ensures
-          ∙ ap (λ t. constants c.args.basis t) (c.or_zero-threshold.ensures ∙ ap or_zero c.threshold.ensures ∙ told c.args.basis (length c.args.out.now) none));
-    }
+    let named = ap (constants c.args.basis) (threshold_is c.args.basis _ c.in_ok-threshold.ensures) in
+    record { writes = done (sym c.in_ok-sizes_refusal.ensures) (c.copy_from_slice.ensures.after ∙ c.constants.ensures ∙ named) }
