@@ -1,25 +1,27 @@
--- Lengths of packed ciphertexts.
+-- What judges an opening, with a plaintext modulus or without.
 -- Assumes nothing.
-use mathlib.Core.Path.{◌≡◌, refl, sym, ap}
-use mathlib.Core.Bool.{Bool, true, false, not}
-use Prim.Native.Nat.{ℕ, ◌+◌, ◌-◌, ◌≤◌, ◌<◌}
-use native.Mathlib.Omega.{arith}
-use lib.Dec.{eqb}
-use borrow.Author.Tests.{eqb-true, eqb-false, eq-eqb, ne_eqb}
-use Rattle.scheme.specs.Checks.{length_fails}
+use Rattle.std.proofs.Common.{rules, ℕ, ◌-◌, false, ◌||◌, List, Option, Some, None, length}
+use Rattle.scheme.specs.Checks.{length_fails, packed_fails, words_fail}
+use Rattle.primus_reduce.specs.Ring.{size_of}
+use Rattle.check_order.specs.declared.Sizes.{Sizes}
+use Rattle.check_order.specs.Judged.{JudgesSizes, JudgesValues}
+use Rattle.lwe_parameters.specs.declared.parameter.LwePhaseParameters.{LwePhaseParameters}
+use Rattle.lwe_parameters.specs.Answers.{judged_rows}
+use Rattle.lwe_packed_refusals.specs.Rows.{packed_opening_rows}
 
-pub room-short : (room n c : ℕ) {m : ℕ} → n ≡ m → room < n → true ≡ length_fails room (m + c)
-room-short room n c e h = sym (ap not (ne_eqb room _ (λ z. omega arith)))
+module _ (P : LwePhaseParameters) (s x : List ℕ) (room : ℕ) where
+  pub opening_sizes : (t : Option ℕ) (j : Sizes) → JudgesSizes (judged_rows t P) j
+      → JudgesSizes (packed_opening_rows t P s x room)
+      (record j {
+        key = length_fails (length s) P.dimension.0;
+        input = packed_fails (length x) P.dimension.0;
+        output = length_fails room (length x - P.dimension.0);
+      })
+  opening_sizes None j h = search rules
+  opening_sizes (Some t) j h = search rules
 
-pub room_rest : (room n c : ℕ) {m : ℕ} → n ≡ m → n ≤ room → not (eqb (room - n) c) ≡ length_fails room (m + c)
-room_rest room n c {m} k h = ap not (go (eqb (room - n) c) refl)
-  where
-    go : (b : Bool) → eqb (room - n) c ≡ b → b ≡ eqb room (m + c)
-    go true e = sym (eq-eqb room (m + c) (omega (arith, eqb-true (room - n) c e)))
-    go false e = sym (ne_eqb room (m + c) (λ z. eqb-false (room - n) c e (omega arith)))
-
-pub no_bodies : (room n len : ℕ) {m : ℕ} → n ≡ m → len < n → length_fails room 0 ≡ length_fails room (len - m)
-no_bodies room n len {m} e h = ap (length_fails room) (none n e h)
-  where
-    none : (n : ℕ) → n ≡ m → len < n → 0 ≡ len - m
-    none n e h = omega arith
+  pub opening_values : (t : Option ℕ)
+      → JudgesValues (packed_opening_rows t P s x room)
+      (record { word = words_fail (size_of P.modulus) x || words_fail (size_of P.modulus) s; error = false; message = false; tally = false })
+  opening_values None = search rules
+  opening_values (Some t) = search rules

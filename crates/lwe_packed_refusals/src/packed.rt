@@ -1,12 +1,12 @@
-// Packed plaintexts and phases.
-ghost use Rattle.std.specs.Prelude.{◌≡◌, ◌||◌, ◌+◌, ◌-◌};
-ghost use Rattle.scheme.specs.Checks.{refusal, length_fails, count_fails, packed_fails, words_fail};
+// Packed plaintexts.
+ghost use Rattle.std.specs.Prelude.{◌≡◌, ◌||◌, ◌+◌};
+ghost use Rattle.scheme.specs.Checks.{refusal, length_fails, count_fails, words_fail};
 ghost use Rattle.primus_reduce.specs.Ring.{size_of};
-ghost use Rattle.lwe_packed_refusals.specs.Rows.{packed_rows, packed_phase_rows};
+ghost use Rattle.check_order.specs.Answer.{code_of};
+ghost use Rattle.lwe_packed_refusals.specs.Rows.{packed_rows};
 
-use check_order::Values;
-use lwe_parameters::{LweEncryptionParameters, LwePhaseParameters};
-use lwe_samples::packed_refused;
+use check_order::{Refusal, Values};
+use lwe_parameters::LweEncryptionParameters;
 use primus_lattice::LweDimension;
 use primus_reduce::Modulus;
 
@@ -22,10 +22,7 @@ pub(crate) fn room_differs(dimension: LweDimension, room: usize, count: usize) -
     ensures { result ≡ length_fails room (dimension.0 + count) }
 {
     let n = dimension.get();
-    if room < n {
-        return true;
-    }
-    room - n != count
+    room < n || room - n != count
 }
 
 // 12: the mask does not have n words, or there is not an error for each body.
@@ -57,11 +54,10 @@ pub fn packed_refusal(
     errors: &[i32],
     plaintexts: &[u32],
     room: usize,
-) -> u32
-    ensures { result ≡ refusal (packed_rows params secret.now mask.now
+) -> Result<(), Refusal>
+    ensures { code_of result ≡ refusal (packed_rows params secret.now mask.now
         errors.now plaintexts.now room) }
 {
-    let modulus = params.modulus;
     let dimension = params.dimension;
     let count = plaintexts.len();
     let mut s = params.sizes();
@@ -69,54 +65,9 @@ pub fn packed_refusal(
     s.input = count_refused(dimension, count);
     s.output = room_differs(dimension, room, count);
     s.lent = lent_differs(dimension, mask.len(), errors.len(), count);
-    let r = s.first();
-    if r != 0 {
-        return r;
-    }
+    s.judge()?;
     let mut v = Values::NONE;
-    v.word = words_refused(modulus, secret, mask, plaintexts);
+    v.word = words_refused(params.modulus, secret, mask, plaintexts);
     v.error = checks::errors_refused(params.error_limit, errors);
-    v.first()
-}
-
-// 10: fewer than n words, or more than n bodies.
-pub(crate) fn input_refused(dimension: LweDimension, len: usize) -> bool
-    ensures { result ≡ packed_fails len dimension.0 }
-{
-    packed_refused(len, dimension.get())
-}
-
-// 11: `room` is not a word for each body of an input of `len` words.
-pub(crate) fn output_differs(dimension: LweDimension, room: usize, len: usize) -> bool
-    ensures { result ≡ length_fails room (len - dimension.0) }
-{
-    let n = dimension.get();
-    if len < n {
-        return room != 0;
-    }
-    room != len - n
-}
-
-// What refuses phases of a packed ciphertext.
-pub fn packed_phase_refusal(
-    params: LwePhaseParameters,
-    secret: &[u32],
-    input: &[u32],
-    room: usize,
-) -> u32
-    ensures { result ≡ refusal (packed_phase_rows params secret.now input.now room) }
-{
-    let modulus = params.modulus;
-    let dimension = params.dimension;
-    let mut s = params.sizes();
-    s.key = dimension.differs(secret.len());
-    s.input = input_refused(dimension, input.len());
-    s.output = output_differs(dimension, room, input.len());
-    let r = s.first();
-    if r != 0 {
-        return r;
-    }
-    let mut v = Values::NONE;
-    v.word = checks::both_refused(modulus, secret, input);
-    v.first()
+    v.judge()
 }
