@@ -1,22 +1,32 @@
 -- Scans over the places of a table.
 -- Assumes nothing.
-use mathlib.Core.Path.{◌≡◌, ap, ◌∙◌}
-use mathlib.Core.Bool.{Bool, true, false, not}
-use Prim.Native.Nat.{ℕ, ◌+◌, ◌≤◌, ◌<◌}
-use native.Mathlib.Omega.{arith}
+use Rattle.std.proofs.Common.{◌≡◌, refl, Bool, true, false, not, ◌&&◌, ◌||◌, ℕ, zero, suc, ◌+◌, add-one}
 use Rattle.scheme.specs.Numbers.{tabulate}
 use Rattle.scheme.specs.Checks.{all_of}
-use Rattle.scheme.proofs.Lists.{length-tabulate, get_d_tabulate}
-use Rattle.checks.proofs.Laws.{any_fails, any_hit, any_more, any_all}
+use Rattle.pooling_rows.specs.Rows.{somewhere}
 
--- ---- a scan of f 0, f 1, … of n terms
+one : (a : Bool) → (a && true) ≡ a
+one true = refl
+one false = refl
 
-module _ (p : ℕ → Bool) (n : ℕ) (f : ℕ → ℕ) (i : ℕ) where
-  pub scan_hit : i < n → p (f i) ≡ false → true ≡ any_fails p (tabulate n f) (i + 1)
-  scan_hit h k = any_hit p 0 (tabulate n f) i (omega (arith, length-tabulate n f)) (ap p (get_d_tabulate n f i h) ∙ k)
+along : (a b c d : Bool) → b ≡ (c && d) → (a && b) ≡ ((a && c) && d)
+along true b c d e = e
+along false b c d e = refl
 
-  pub scan_more : {b : Bool} → i < n → b ≡ any_fails p (tabulate n f) i → p (f i) ≡ true → b ≡ any_fails p (tabulate n f) (i + 1)
-  scan_more h e k = any_more p 0 (tabulate n f) i e (omega (arith, length-tabulate n f)) (ap p (get_d_tabulate n f i h) ∙ k)
+-- the next term of f 0, f 1, …
+pub all_next : (p : ℕ → Bool) (f : ℕ → ℕ) (n : ℕ) → all_of p (tabulate (suc n) f) ≡ (all_of p (tabulate n f) && p (f n))
+unfolding all_of tabulate
+all_next p f zero = one (p (f 0))
+all_next p f (suc n) = along (p (f 0)) _ _ _ (all_next p (λ i. f (suc i)) n)
 
-  pub scan_end : {b : Bool} → n ≤ i → b ≡ any_fails p (tabulate n f) i → b ≡ not (all_of p (tabulate n f))
-  scan_end h e = any_all p 0 (tabulate n f) i e (omega (arith, length-tabulate n f))
+not_both : (a b : Bool) → not (a && not b) ≡ (not a || b)
+not_both true true = refl
+not_both true false = refl
+not_both false b = refl
+
+pub somewhere_next : (k : ℕ) (f : ℕ → Bool) → somewhere (k + 1) f ≡ (somewhere k f || f k)
+somewhere_next k f = rw (add-one, all_next (λ i. not (f i)) (λ i. i) k) (not_both (all_of (λ i. not (f i)) (tabulate k (λ i. i))) (f k))
+
+pub somewhere_none : (f : ℕ → Bool) → somewhere 0 f ≡ false
+unfolding all_of tabulate
+somewhere_none f = refl

@@ -1,84 +1,66 @@
 -- One row of a total and of a file, where the sum of the two is accepted.
---     place_words, place_tag_lem, place_never    what add_assign writes and answers where no number applies
---     room_fits, row-ready, row_is           the row as a part of the total, read into a room that is as long
+--     row_served    the call of the sum answers its tag
+--     row_added     its tag is the sum's, and the sum stands in place of the row
 -- Assumes nothing.
-use mathlib.Core.Path.{◌≡◌, sym, ap, ap₂, ◌∙◌}
-use mathlib.Core.List.{List, ◌++◌}
-use Prim.Native.Nat.{ℕ, ◌+◌, ◌*◌, ◌-◌, ◌^◌, ◌≤◌, ◌<◌}
-use native.Mathlib.Omega.{arith}
-use lib.ListN.{length, take, drop}
-use lib.Seq.{length-take-le}
+use Rattle.std.proofs.Common.{rules, ◌≡◌, refl, sym, ap, ◌∙◌, ℕ, ◌+◌, ◌*◌, ◌-◌, ◌≤◌, List, ◌++◌, Result, Ok, length, take, drop, arith}
+use Rattle.std.proofs.Math.Seq.{length-take-le}
 use borrow.Author.Tests.{eq-eqb}
+use Rattle.std.specs.Result.{IsOk}
 use Rattle.scheme.specs.Lwe.{add_words}
 use Rattle.scheme.specs.Tally.{add_tally}
 use Rattle.scheme.specs.Checks.{refusal}
 use Rattle.primus_reduce.specs.Ring.{size_of}
 use Rattle.primus_reduce.specs.declared.modulus.Modulus.{Modulus}
+use Rattle.check_order.specs.declared.refusal.Refusal.{Refusal}
+use Rattle.check_order.proofs.Answers.{accepted}
 use Rattle.lwe_tag.specs.declared.LweTag.{LweTag}
-use Rattle.lwe_tag.specs.declared.LweAnswer.{LweAnswer}
-use Rattle.lwe_tag.specs.declared.LweAnswer.TheVariants.{Written, Refused}
 use Rattle.lwe_tag.specs.Answers.{tally_of, tag_of}
 use Rattle.primus_lattice.specs.declared.dimension.LweDimension.{LweDimension}
 use Rattle.primus_lattice.specs.Answers.{add_rows, Adds}
 use Rattle.saved.specs.Layout.{saved_tag}
 use Rattle.pooling_rows.specs.Rows.{tag_for, sum_number, words_from, row_at, replaced_row}
 
--- ---- one sum
+-- a part, as the code cuts it
+part_is : (w at : ℕ) (xs : List ℕ) → take (at + w - at) (drop at xs) ≡ take w (drop at xs)
+part_is w at xs = let e : at + w - at ≡ w = omega arith in rw e refl
 
-module _ {m : Modulus} {n : LweDimension} {x : List ℕ} {g : LweTag} {y : List ℕ} {h : LweTag} {answer : LweAnswer} {after : List ℕ}
-    (p : Adds m n x g y h answer after) {gs : LweTag} {ys : List ℕ} {hs : LweTag} (eg : g ≡ gs) (ey : y ≡ ys) (eh : h ≡ hs)
-    (z : refusal (add_rows m n.0 x gs ys hs) ≡ 0) where
-  none : refusal (add_rows m n.0 x g y h) ≡ 0
-  none =
-      ap (λ g. refusal (add_rows m n.0 x g y h)) eg
-      ∙ ap₂ (λ y h. refusal (add_rows m n.0 x gs y h)) ey eh
-      ∙ z
+-- a width W that is n, and the space that the row of the file is read into
+module _ {m : Modulus} {n : LweDimension} {y : List ℕ} {g h : LweTag} {given : Result LweTag Refusal} {after : List ℕ}
+    (W i number : ℕ) (total s space : List ℕ) (ew : W ≡ n.0) (room : n.0 + 1 ≤ length space)
+    (ey : y ≡ words_from s (i * (W + 1)) (length (take (W + 1) space))) (eg : g ≡ tag_for number) (eh : h ≡ saved_tag s i)
+    (p : Adds m n (take (i * (W + 1) + (W + 1) - i * (W + 1)) (drop (i * (W + 1)) total)) g y h given after)
+    (z : refusal (add_rows m n.0 (row_at (n.0 + 1) total i) (tag_for number) (words_from s (i * (n.0 + 1)) (n.0 + 1)) (saved_tag s i)) ≡ 0) where
+  read : y ≡ words_from s (i * (n.0 + 1)) (n.0 + 1)
+  read = ey ∙ rw ew (ap (words_from s (i * (n.0 + 1))) (length-take-le (n.0 + 1) space room))
 
-  wrote : answer ≡ Written (tag_of (add_tally (tally_of g) (tally_of h)))
-  wrote = p.writes.answered ∙ rw (eq-eqb (refusal (add_rows m n.0 x g y h)) 0 none)
+  row : take (i * (W + 1) + (W + 1) - i * (W + 1)) (drop (i * (W + 1)) total) ≡ row_at (n.0 + 1) total i
+  row = part_is (W + 1) (i * (W + 1)) total ∙ rw ew
 
-  pub place_words : after ≡ add_words (size_of m) x ys
-  place_words =
-      p.writes.holds ∙ rw (eq-eqb (refusal (add_rows m n.0 x g y h)) 0 none) (ap (add_words (size_of m) x) ey)
+  adds : Adds m n (row_at (n.0 + 1) total i) (tag_for number) (words_from s (i * (n.0 + 1)) (n.0 + 1)) (saved_tag s i) given after
+  adds = rw (row, read, eg, eh) at p
 
-  pub place_tag_lem : (sum : LweTag) → answer ≡ Written sum → sum.tally ≡ sum_number gs hs
-  place_tag_lem sum e =
-      let q : Written sum ≡ Written (tag_of (add_tally (tally_of g) (tally_of h))) = sym e ∙ wrote in
-      let k : sum ≡ tag_of (add_tally (tally_of g) (tally_of h)) = cc in
-      ap (λ t. t.tally) k ∙ ap₂ sum_number eg eh
+  tag : LweTag
+  tag = tag_of (add_tally (tally_of (tag_for number)) (tally_of (saved_tag s i)))
 
-  pub place_never : (r : ℕ) → answer ≡ Refused r → ⊥
-  place_never r e =
-      let q : Refused r ≡ Written (tag_of (add_tally (tally_of g) (tally_of h))) = sym e ∙ wrote in
-      absurd (let o : ◌≡◌ {A = ℕ} 0 1 = cc in omega arith)
+  served : given ≡ Ok tag
+  unfolding tag
+  served = adds.writes.answered ∙ accepted _ _ z
 
--- ---- a row in its place
+  pub row_served : IsOk given
+  row_served = let e = served in search rules
 
-abbrev replaced_part : ℕ → ℕ → List ℕ → List ℕ → List ℕ
-replaced_part at m xs row = take at xs ++ (row ++ drop m (drop at xs))
+  words : take (i * (W + 1)) total ++ (after ++ drop (i * (W + 1) + (W + 1) - i * (W + 1)) (drop (i * (W + 1)) total))
+      ≡ replaced_row (n.0 + 1) total i (add_words (size_of m) (row_at (n.0 + 1) total i) (words_from s (i * (n.0 + 1)) (n.0 + 1)))
+  words =
+      let size : i * (n.0 + 1) + (n.0 + 1) - i * (n.0 + 1) ≡ n.0 + 1 = omega arith in
+      rw (ew, size, adds.writes.holds, eq-eqb _ 0 z) refl
 
-pub room-is : (w : ℕ) (room : List ℕ) → w ≤ length room → length (take (w - 0) (drop 0 room)) ≡ w
-room-is w room h = ap (λ m. length (take m room)) plain ∙ length-take-le w room h
-  where
-    plain : w - 0 ≡ w
-    plain = omega arith
-
-pub room_fits : (at w : ℕ) (room : List ℕ) → w ≤ length room → at + w < 2 ^ 64 → at + length (take (w - 0) (drop 0 room)) < 2 ^ 64
-room_fits at w room h k = omega (arith, room-is w room h)
-
--- what a sum of the row asks
-pub row-ready : (m : Modulus) (n w i number : ℕ) (xs s room : List ℕ) → w ≤ length room
-    → refusal (add_rows m n (row_at w xs i) (tag_for number) (words_from s (i * w) w) (saved_tag s i)) ≡ 0
-    → refusal (add_rows m n (take (i * w + w - i * w) (drop (i * w) xs)) (tag_for number) (words_from s (i * w) (length (take (w - 0) (drop 0 room)))) (saved_tag s i)) ≡ 0
-row-ready m n w i number xs s room h z =
-    let size : i * w + w - i * w ≡ w = omega arith in
-    ap₂ (λ (j : ℕ) (k : ℕ). refusal (add_rows m n (take j (drop (i * w) xs)) (tag_for number) (words_from s (i * w) k) (saved_tag s i))) size (room-is w room h) ∙ z
-
--- the part from `at` to its end, read into a room that is as long
-pub row_is : (q w i : ℕ) (xs s room : List ℕ) → w ≤ length room → {row : List ℕ}
-    → row ≡ add_words q (take (i * w + w - i * w) (drop (i * w) xs)) (words_from s (i * w) (length (take (w - 0) (drop 0 room))))
-    → replaced_part (i * w) (i * w + w - i * w) xs row ≡ replaced_row w xs i (add_words q (row_at w xs i) (words_from s (i * w) w))
-row_is q w i xs s room h {row} f =
-    let size : i * w + w - i * w ≡ w = omega arith in
-    ap₂ (λ (m : ℕ) (l : List ℕ). replaced_part (i * w) m xs l) size
-    (f ∙ ap₂ (λ (m : ℕ) (k : ℕ). add_words q (take m (drop (i * w) xs)) (words_from s (i * w) k)) size (room-is w room h))
+  pub row_added : (sum : LweTag) (a : ℕ) → given ≡ Ok sum → a ≡ sum.tally
+      → (take (i * (W + 1)) total ++ (after ++ drop (i * (W + 1) + (W + 1) - i * (W + 1)) (drop (i * (W + 1)) total))
+      ≡ replaced_row (n.0 + 1) total i (add_words (size_of m) (row_at (n.0 + 1) total i) (words_from s (i * (n.0 + 1)) (n.0 + 1))))
+      × (a ≡ sum_number (tag_for number) (saved_tag s i))
+  unfolding tag
+  row_added sum a es ea =
+      let e : ◌≡◌ {A = Result LweTag Refusal} (Ok sum) (Ok tag) = sym es ∙ served in
+      let same : sum ≡ tag = cc in
+      (words, ea ∙ ap (λ t. t.tally) same)

@@ -1,11 +1,6 @@
-use Prim.Native.Nat.{◌-◌}
-use lib.ListN.{length}
-use Rattle.scheme.proofs.InPlace.{Filled}
-use Rattle.pooling_rows.specs.Rows.{words_from}
+use Rattle.std.proofs.Common.{◌≡◌, ◌+◌, ◌<◌, ℕ, get_or}
+use Rattle.saved.specs.Layout.{file_word}
 use Rattle.pooling_rows.proofs.rows.words_from.Given as goal
 
 abbrev pub invariant-loop-k : goal.invariant-loop-k
-invariant-loop-k l = Filled (words_from l.bytes l.at (length l.initial.out)) l.initial.out l.out l.k
-
-abbrev pub decreases-loop-k : goal.decreases-loop-k
-decreases-loop-k l = length l.initial.out - l.k
+invariant-loop-k l = (j : ℕ) → j < l.k → get_or l.out j 0 ≡ file_word l.bytes (l.at + j)
