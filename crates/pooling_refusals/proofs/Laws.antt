@@ -1,52 +1,45 @@
--- 19 before the order, and sizes before values.
+-- The words of a file that are judged so far, and 19 before the order.
 -- Assumes nothing.
-use mathlib.Core.Path.{◌≡◌, sym, ap, ◌∙◌}
-use mathlib.Core.Bool.{Bool, true, false}
-use mathlib.Core.List.{List}
-use Prim.Native.Nat.{ℕ, ◌≤◌}
-use native.Mathlib.Omega.{arith}
-use lib.Dec.{ltb, leb}
-use lib.ListN.{length}
-use borrow.Author.Tests.{lt-ltb, le-ltb, leb-true, leb-false}
+use Rattle.std.proofs.Common.{◌≡◌, refl, ap, ◌∙◌, rules, Bool, true, false, not, ◌&&◌, ◌||◌, ℕ, ◌+◌, List, length, add-one, arith, ltb, leb}
+use Rattle.std.proofs.lemmas.Grind.{common_steps}
 use Rattle.scheme.specs.Numbers.{pick, tabulate}
-use Rattle.scheme.specs.Checks.{Check, sizes, applies, first_in, refusal, words_fail}
-use Rattle.scheme.proofs.Order.{Sized}
-use Rattle.checks.proofs.Laws.{any_fails}
+use Rattle.scheme.specs.Checks.{Check, all_of, applies, refusal, words_fail}
+use Rattle.check_order.specs.declared.Sizes.{Sizes}
+use Rattle.check_order.specs.Judged.{JudgesSizes}
 use Rattle.saved_head.specs.declared.head.Head.{Head}
-use Rattle.pooling_rows.proofs.Laws.{scan_end}
 use Rattle.pooling_refusals.specs.declared.total.PoolParameters.{PoolParameters}
+use Rattle.pooling_rows.proofs.Laws.{all_next}
 use Rattle.pooling_refusals.specs.Rows.{size_rows, begin_rows, total_rows, file_refusal}
 
--- ---- words
+pub words_none : (q : ℕ) (f : ℕ → ℕ) → words_fail q (tabulate 0 f) ≡ false
+unfolding words_fail tabulate all_of
+words_none q f = refl
 
-pub words_end : (q n : ℕ) (f : ℕ → ℕ) (i : ℕ) {b : Bool} → n ≤ i → b ≡ any_fails (λ x. ltb x q) (tabulate n f) i → b ≡ words_fail q (tabulate n f)
+fails : (a : Bool) (q x : ℕ) → not (a && ltb x q) ≡ (not a || leb q x)
+fails a q x = grind (arith, common_steps)
+
+pub words_next : (q n : ℕ) (f : ℕ → ℕ) → words_fail q (tabulate (n + 1) f) ≡ (words_fail q (tabulate n f) || leb q (f n))
 unfolding words_fail
-words_end q n f i h e = scan_end (λ x. ltb x q) n f i h e
+words_next q n f = rw (add-one, all_next (λ x. ltb x q) f n) (fails (all_of (λ x. ltb x q) (tabulate n f)) q (f n))
 
--- one word
-module _ (q x y : ℕ) (b : Bool) (e : b ≡ leb q x) (f : x ≡ y) where
-  pub word_hit : b ≡ true → ltb y q ≡ false
-  word_hit h = ap (λ z. ltb z q) (sym f) ∙ le-ltb x q (leb-true q x (sym e ∙ h))
+-- ---- the sizes of both calls, and the first refusal
 
-  pub word_passes : b ≡ false → ltb y q ≡ true
-  word_passes h = ap (λ z. ltb z q) (sym f) ∙ lt-ltb x q (leb-false q x (sym e ∙ h))
+module _ (p : PoolParameters) (h : Head) (s : List ℕ) (j : Sizes) where
+  pub begin_sized : (width places : ℕ) → JudgesSizes (size_rows p h width places) j → JudgesSizes (begin_rows p h s width places) j
+  begin_sized width places g = search rules
 
-taken : {A : Type 0} (b : Bool) (x y : A) → b ≡ true → x ≡ pick b x y
-taken b x y e = rw e
+  pub total_sized : (xs ts : List ℕ) → JudgesSizes (size_rows p h (length xs) (length ts)) j → JudgesSizes (total_rows p h s xs ts) j
+  total_sized xs ts g = search rules
 
-left : {A : Type 0} (b : Bool) (x y : A) → b ≡ false → y ≡ pick b x y
-left b x y e = rw e
-
--- ---- 19, then the order
-
-module _ (rows : Head → List Check) {h g : Head} {b : Bool} (e : h ≡ g) (f : b ≡ applies (rows h) 19) where
-  pub foreign_is : b ≡ true → 19 ≡ file_refusal (rows g)
+-- of the head of a file
+module _ (rows : Head → List Check) (g : Head) where
+  pub foreign_is : {n : ℕ} → n ≡ 19 → applies (rows g) 19 ≡ true → n ≡ file_refusal (rows g)
   unfolding file_refusal
-  foreign_is t = taken _ _ _ (sym (ap (λ h. applies (rows h) 19) e) ∙ sym f ∙ t)
+  foreign_is e t = e ∙ rw t refl
 
-  pub own_is : {r : ℕ} → b ≡ false → r ≡ refusal (rows h) → r ≡ file_refusal (rows g)
+  pub own_is : {h : Head} {r : ℕ} → h ≡ g → applies (rows g) 19 ≡ false → r ≡ refusal (rows h) → r ≡ file_refusal (rows g)
   unfolding file_refusal
-  own_is t k = k ∙ ap (λ h. refusal (rows h)) e ∙ left _ _ _ (sym (ap (λ h. applies (rows h) 19) e) ∙ sym f ∙ t)
+  own_is e t k = k ∙ ap (λ h. refusal (rows h)) e ∙ rw t refl
 
 pub in_order : (rows : List Check) → file_refusal rows ≡ 0 → refusal rows ≡ 0
 unfolding file_refusal
@@ -55,14 +48,3 @@ in_order rows e = go (applies rows 19) e
     go : (b : Bool) → pick b 19 (refusal rows) ≡ 0 → refusal rows ≡ 0
     go true e = let z : ◌≡◌ {A = ℕ} 19 0 = e in absurd (omega arith)
     go false e = e
-
--- ---- the sizes of both calls
-
-module _ (p : PoolParameters) (h : Head) (s : List ℕ) where
-  pub begin_sized : (width places : ℕ) {r : ℕ} → r ≡ first_in (applies (size_rows p h width places)) sizes → Sized (begin_rows p h s width places) r
-  unfolding first_in
-  begin_sized width places e = e
-
-  pub total_sized : (xs ts : List ℕ) {r : ℕ} → r ≡ first_in (applies (size_rows p h (length xs) (length ts))) sizes → Sized (total_rows p h s xs ts) r
-  unfolding first_in
-  total_sized xs ts e = e

@@ -1,11 +1,14 @@
 -- What a file is judged by, as the beginning of a total and beside one.
-use Rattle.std.specs.Prelude.{Bool, not, ◌||◌, List, [], ◌∷◌, ◌++◌, ℕ, ◌+◌, ◌*◌, eqb, length}
+use Rattle.std.specs.Prelude.{◌≡◌, Bool, true, false, not, Result, MatchResult, ◌||◌, List, [], ◌∷◌, ◌++◌, ℕ, ◌+◌, ◌*◌, eqb, length}
 use Rattle.scheme.specs.Numbers.{pick}
 use Rattle.scheme.specs.Checks.{Check, row, applies, refusal}
 use Rattle.scheme.specs.Checks.{modulus_fails, dimension_fails, plaintext_fails, small_fails, length_fails, words_fail}
+use Rattle.check_order.specs.declared.refusal.Refusal.{Refusal}
+use Rattle.check_order.specs.Answer.{number_of as number_of_refusal}
 use Rattle.primus_reduce.specs.Ring.{meant, size_of, number_of}
 use Rattle.primus_reduce.specs.declared.modulus.Modulus.{Modulus}
 use Rattle.saved_head.specs.declared.head.Head.{Head}
+use Rattle.saved_head.specs.Kind.{is_ciphertexts}
 use Rattle.saved_head.specs.Head.{head_of, file_rows}
 use Rattle.saved.specs.Layout.{file_words}
 use Rattle.pooling_rows.specs.Rows.{tallies_fail, saved_fail}
@@ -14,7 +17,7 @@ use Rattle.pooling_refusals.specs.declared.total.PoolParameters.{PoolParameters}
 -- 19: a file of another kind, or made with another q or t, is unknown to this total
 abbrev pub other_fails : Head → Modulus → ℕ → Bool
 other_fails h m t =
-    not (eqb h.kind 5)
+    not (is_ciphertexts h.kind)
     || (not (eqb (number_of h.modulus) (number_of m)) || not (eqb h.plaintext_modulus t))
 
 -- a file with the head h, for a total of `width` words and `places` tags: 2 to 12
@@ -33,6 +36,13 @@ size_rows p h width places =
 -- 19: no whole file, or none of this total. The E of its head is not judged: a sum takes words and tallies, and no E
 abbrev pub own_rows : PoolParameters → Head → List ℕ → List Check
 own_rows p h s = row (other_fails h p.modulus p.plaintext_modulus) 19 ∷ file_rows s
+
+-- the head of a whole file of this total, or 19
+abbrev pub OwnHead : PoolParameters → List ℕ → Result Head Refusal → Type 0
+OwnHead p s r =
+    MatchResult r
+    (λ h. (h ≡ head_of s) × (applies (own_rows p (head_of s) s) 19 ≡ false))
+    (λ e. (number_of_refusal e ≡ 19) × (applies (own_rows p (head_of s) s) 19 ≡ true))
 
 -- a file s with the head h, as the beginning of a total
 abbrev pub begin_rows : PoolParameters → Head → List ℕ → ℕ → ℕ → List Check

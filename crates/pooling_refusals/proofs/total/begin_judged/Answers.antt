@@ -1,19 +1,18 @@
-use mathlib.Core.List.{List}
-use borrow.Author.Rules.{rules}
-use Rattle.scheme.specs.Checks.{Check}
-use Rattle.scheme.proofs.Order.{Sized, early, late}
+use Rattle.std.proofs.Common.{rules, arith, ◌≡◌}
+use Rattle.std.proofs.lemmas.Grind.{common_steps}
+use Rattle.scheme.specs.Checks.{refusal}
+use Rattle.check_order.specs.Answer.{number_of}
+use Rattle.check_order.proofs.Answers.{first_size, first_value}
 use Rattle.pooling_refusals.specs.Rows.{begin_rows}
 use Rattle.pooling_refusals.proofs.Laws.{begin_sized}
 use Rattle.pooling_refusals.proofs.total.begin_judged.Goals as goal
 
-pub returns-then-r-ne0 : goal.returns-then-r-ne0
-returns-then-r-ne0 c =
-    let rows : List Check = begin_rows c.args.params c.args.h c.args.bytes.now c.args.len c.args.places in
-    let sized : Sized rows c.sizes_refusal-r.result = begin_sized c.args.params c.args.h c.args.bytes.now c.args.len c.args.places c.sizes_refusal-r.ensures in
-    early _ sized c.if-r-ne0.true
+pub returns-in_err-judge : goal.returns-in_err-judge
+returns-in_err-judge c =
+    let told : number_of c.in_err-judge.field-0.0 ≡ refusal (begin_rows c.args.params c.args.h c.args.bytes.now c.args.len c.args.places) =
+    first_size _ _ _ c.in_err-judge.ensures (begin_sized c.args.params c.args.h c.args.bytes.now _ c.args.len c.args.places c.sizes.ensures) in
+    grind (arith, common_steps)
 
 pub returns : goal.returns
 returns c =
-    let rows : List Check = begin_rows c.args.params c.args.h c.args.bytes.now c.args.len c.args.places in
-    let sized : Sized rows c.sizes_refusal-r.result = begin_sized c.args.params c.args.h c.args.bytes.now c.args.len c.args.places c.sizes_refusal-r.ensures in
-    late _ sized c.if-r-ne0.false (c.first.ensures rows (search rules))
+    first_value _ _ _ _ c.in_ok-judge.ensures (begin_sized c.args.params c.args.h c.args.bytes.now _ c.args.len c.args.places c.sizes.ensures) c.judge-2.ensures (search rules)
