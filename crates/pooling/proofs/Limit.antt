@@ -14,7 +14,6 @@ use Rattle.scheme.specs.Tally.{tally_fails}
 use Rattle.scheme.specs.Checks.{Check, applies, all_of}
 use Rattle.scheme.proofs.Lists.{tabulate_ext}
 use Rattle.little_endian.specs.Bytes.{word32, word64}
-use Rattle.little_endian.proofs.Laws.{four}
 use Rattle.lwe_tag.specs.Answers.{cap, tally_of, tag_rows}
 use Rattle.saved_head.specs.Head.{head_of}
 use Rattle.saved.specs.Layout.{file_word, file_words, saved_tag}
@@ -32,13 +31,11 @@ module _ (s u : List ℕ) (len : length s ≡ length u) (before : (k : ℕ) → 
     (behind : (k : ℕ) → 40 ≤ k → get_or s k 0 ≡ get_or u k 0) where
   early : (i : ℕ) → i + 3 < 36 → word32 s i ≡ word32 u i
   unfolding word32
-  early i h =
-      four _ _ _ _ _ _ _ _ (before i (omega arith)) (before (i + 1) (omega arith)) (before (i + 2) (omega arith)) (before (i + 3) (omega arith))
+  early i h = rw (before i (omega arith), before (i + 1) (omega arith), before (i + 2) (omega arith), before (i + 3) (omega arith)) refl
 
   late : (i : ℕ) → 40 ≤ i → word32 s i ≡ word32 u i
   unfolding word32
-  late i h =
-      four _ _ _ _ _ _ _ _ (behind i (omega arith)) (behind (i + 1) (omega arith)) (behind (i + 2) (omega arith)) (behind (i + 3) (omega arith))
+  late i h = rw (behind i (omega arith), behind (i + 1) (omega arith), behind (i + 2) (omega arith), behind (i + 3) (omega arith)) refl
 
   late64 : (i : ℕ) → 40 ≤ i → word64 s i ≡ word64 u i
   unfolding word64

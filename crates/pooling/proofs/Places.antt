@@ -94,7 +94,7 @@ module _ (p : PoolParameters) (s xs ts : List ℕ) (e : total_refusal p s xs ts 
   pub whole : length xs ≡ length ts * (n + 1)
   whole = widths.0 ∙ widths.1 ∙ ap (λ c. c * (n + 1)) (sym (length_ok _ _ (passed rows zeroes 12 tt)))
 
-  pub most : n ≤ 2048
+  most : n ≤ 2048
   most = (dimension_ok n (passed rows zeroes 6 tt)).1
 
   pub positive : 0 < q
@@ -160,7 +160,7 @@ module _ (p : PoolParameters) (s xs ts : List ℕ) (e : total_refusal p s xs ts 
   turns-start =
       (filling_start sums (n + 1) (length ts) xs whole sums_length, filled_start (add_tallies ts s) ts (length-tabulate (length ts) (place_sum ts s)))
 
-  module _ (now tags : List ℕ) (i : ℕ) (r : Turned now tags i) (h : i < length ts) (k : ℕ) (ek : k ≡ n) where
+  module _ (now tags : List ℕ) (i : ℕ) (r : Turned now tags i) (h : i < length ts) where
     -- the row and the tally to come are as they were
     rest : row_at (n + 1) now i ≡ row_at (n + 1) xs i
     rest = ap (take (n + 1)) (filling_rest r.0)
@@ -168,24 +168,18 @@ module _ (p : PoolParameters) (s xs ts : List ℕ) (e : total_refusal p s xs ts 
     kept : get_or tags i 0 ≡ get_or ts i 0
     kept = filled_word (add_tallies ts s) ts tags i r.1 h
 
-    pub turn_ready : (i * (k + 1) + (k + 1) ≤ length now) × (k + 1 ≤ 2049)
-        × (refusal (add_rows p.modulus n (row_at (k + 1) now i) (tag_for (get_or tags i 0)) (words_from s (i * (k + 1)) (k + 1)) (saved_tag s i)) ≡ 0)
-    turn_ready =
-        subst
-        (λ k. (i * (k + 1) + (k + 1) ≤ length now) × (k + 1 ≤ 2049)
-        × (refusal (add_rows p.modulus n (row_at (k + 1) now i) (tag_for (get_or tags i 0)) (words_from s (i * (k + 1)) (k + 1)) (saved_tag s i)) ≡ 0))
-        (sym ek) (
-          filling_room r.0 h,
-          omega (arith, most),
-          ap₂ (λ (row : List ℕ) (a : ℕ). refusal (add_rows p.modulus n row (tag_for a) (words_from s (i * (n + 1)) (n + 1)) (saved_tag s i))) rest kept ∙ adds_at i h,
-        )
+    pub turn_ready : (i * (n + 1) + (n + 1) ≤ length now) × (n + 1 ≤ 2049)
+        × (refusal (add_rows p.modulus n (row_at (n + 1) now i) (tag_for (get_or tags i 0)) (words_from s (i * (n + 1)) (n + 1)) (saved_tag s i)) ≡ 0)
+    turn_ready = (
+      filling_room r.0 h,
+      omega (arith, most),
+      ap₂ (λ (row : List ℕ) (a : ℕ). refusal (add_rows p.modulus n row (tag_for a) (words_from s (i * (n + 1)) (n + 1)) (saved_tag s i))) rest kept ∙ adds_at i h,
+    )
 
-    pub turn_next : (next : List ℕ) (a : ℕ) → next ≡ replaced_row (k + 1) now i (sum_at q (k + 1) s now i)
+    pub turn_next : (next : List ℕ) (a : ℕ) → next ≡ replaced_row (n + 1) now i (sum_at q (n + 1) s now i)
         → a ≡ sum_number (tag_for (get_or tags i 0)) (saved_tag s i) → Turned next (set tags i a) (i + 1)
     turn_next next a en ea = (
-      filling_next r.0 h next
-          (en ∙ ap (λ k. replaced_row (k + 1) now i (sum_at q (k + 1) s now i)) ek
-          ∙ ap (λ row. replaced_row (n + 1) now i (add_words q row (words_from s (i * (n + 1)) (n + 1)))) rest),
+      filling_next r.0 h next (en ∙ ap (λ row. replaced_row (n + 1) now i (add_words q row (words_from s (i * (n + 1)) (n + 1)))) rest),
       filled_next (add_tallies ts s) ts tags i r.1 a h
           (ea ∙ ap (λ b. sum_number (tag_for b) (saved_tag s i)) kept ∙ sym (get_d_tabulate (length ts) (place_sum ts s) i h)),
     )

@@ -16,12 +16,7 @@ pub(crate) fn add_rows(total: &mut [u32], tallies: &mut [u64], params: PoolParam
         (file_words bytes.now (length total.old)))
         × (tallies.new ≡ add_tallies tallies.old bytes.now) }
 {
-    let modulus = params.modulus;
-    let dimension = params.dimension;
-    let width = dimension.get() + 1;
-    let mut i = 0;
-    while i < tallies.len() {
-        tallies[i] = add_row(total, tallies[i], bytes, i, width, modulus, dimension);
-        i += 1;
+    for (i, tally) in tallies.iter_mut().enumerate() {
+        *tally = add_row(total, *tally, bytes, i, params.modulus, params.dimension);
     }
 }

@@ -1,7 +1,9 @@
 // The words of a total, one ciphertext after the other, and the call that adds a file.
+ghost use Rattle.check_order.specs.Answer.{code_of};
 ghost use Rattle.pooling.specs.Total.{BeginsSaved, AddsSaved};
 
 use crate::rows;
+use check_order::Refusal;
 use pooling_refusals::{PoolParameters, begin_refusal, total_refusal};
 
 // The ciphertexts of a file as a total, and their tallies, whatever stood there. The E of its head is not read.
@@ -11,17 +13,14 @@ pub fn begin_saved(
     bytes: &[u8],
     total: &mut [u32],
     tallies: &mut [u64],
-) -> u32
-    ensures { BeginsSaved params bytes.now total.old tallies.old result
+) -> Result<(), Refusal>
+    ensures { BeginsSaved params bytes.now total.old tallies.old (code_of result)
         total.new tallies.new }
 {
-    let refusal = begin_refusal(params, bytes, total.len(), tallies.len());
-    if refusal != 0 {
-        return refusal;
-    }
+    begin_refusal(params, bytes, total.len(), tallies.len())?;
     saved::words_to(bytes, total);
     pooling_rows::write_tallies(tallies, bytes);
-    0
+    Ok(())
 }
 
 // Adds the ciphertexts of a file to a total, and their tallies. The E of its head is not read: a sum takes none.
@@ -31,14 +30,11 @@ pub fn add_saved(
     bytes: &[u8],
     total: &mut [u32],
     tallies: &mut [u64],
-) -> u32
-    ensures { AddsSaved params bytes.now total.old tallies.old result
+) -> Result<(), Refusal>
+    ensures { AddsSaved params bytes.now total.old tallies.old (code_of result)
         total.new tallies.new }
 {
-    let refused = total_refusal(params, bytes, total, tallies);
-    if refused != 0 {
-        return refused;
-    }
+    total_refusal(params, bytes, total, tallies)?;
     rows::add_rows(total, tallies, params, bytes);
-    0
+    Ok(())
 }

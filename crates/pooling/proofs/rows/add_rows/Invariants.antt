@@ -1,5 +1,4 @@
-use Prim.Native.Nat.{◌+◌, ◌-◌}
-use lib.ListN.{length}
+use Rattle.std.proofs.Common.{◌+◌, length}
 use Rattle.scheme.proofs.InPlace.{Filled}
 use Rattle.scheme.proofs.Rows.{Filling}
 use Rattle.primus_reduce.specs.Ring.{size_of}
@@ -8,8 +7,7 @@ use Rattle.pooling.proofs.Places.{sum_at}
 use Rattle.pooling.proofs.rows.add_rows.Given as goal
 
 abbrev pub invariant-loop-i : goal.invariant-loop-i
-invariant-loop-i l = Filling (sum_at (size_of l.modulus) (l.dimension.0 + 1) l.bytes l.initial.total) (l.dimension.0 + 1) (length l.initial.tallies) l.initial.total l.total l.i
+invariant-loop-i l =
+    Filling (sum_at (size_of l.params.modulus) (l.params.dimension.0 + 1) l.bytes l.initial.total) (l.params.dimension.0 + 1) (length l.initial.tallies)
+    l.initial.total l.total l.i
     × Filled (add_tallies l.initial.tallies l.bytes) l.initial.tallies l.tallies l.i
-
-abbrev pub decreases-loop-i : goal.decreases-loop-i
-decreases-loop-i l = length l.initial.tallies - l.i

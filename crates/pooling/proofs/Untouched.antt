@@ -1,0 +1,21 @@
+-- A refused call of either kind leaves the total as it was.
+-- Assumes nothing.
+use Rattle.std.proofs.Common.{◌≡◌, refl, ◌∙◌, ℕ, List, length}
+use borrow.Author.Tests.{ne_eqb}
+use Rattle.check_order.specs.declared.refusal.Refusal.{Refusal}
+use Rattle.check_order.specs.Answer.{number_of}
+use Rattle.check_order.proofs.Answers.{some_number}
+use Rattle.pooling_refusals.specs.declared.total.PoolParameters.{PoolParameters}
+use Rattle.pooling_refusals.specs.Rows.{begin_refusal, total_refusal}
+use Rattle.pooling.specs.Total.{BeginsSaved, AddsSaved}
+
+module _ {p : PoolParameters} {s xs ts : List ℕ} (e : Refusal) where
+  pub unadded : number_of e ≡ total_refusal p s xs ts → AddsSaved p s xs ts (number_of e) xs ts
+  unadded h =
+      let n = ne_eqb (total_refusal p s xs ts) 0 (λ z. some_number e (h ∙ z)) in
+      record { answered = h; adds = rw n refl; tallied = rw n refl }
+
+  pub unbegun : number_of e ≡ begin_refusal p s (length xs) (length ts) → BeginsSaved p s xs ts (number_of e) xs ts
+  unbegun h =
+      let n = ne_eqb (begin_refusal p s (length xs) (length ts)) 0 (λ z. some_number e (h ∙ z)) in
+      record { answered = h; begins = rw n refl; tallied = rw n refl }
