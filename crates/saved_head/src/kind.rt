@@ -16,22 +16,6 @@ pub enum Kind {
 }
 
 impl Kind {
-    // The number that a file gives it.
-    pub fn number(self) -> u32
-        ensures { result ≡ number_of self }
-    {
-        match self {
-            Kind::SecretKey => 1,
-            Kind::SignedSecretKey => 2,
-            Kind::SwitchingKey => 3,
-            Kind::PublicKey => 4,
-            Kind::Ciphertexts => 5,
-            Kind::Packed => 6,
-            Kind::Messages => 7,
-            Kind::Unknown(number) => number,
-        }
-    }
-
     // Ciphertexts of one message each.
     pub fn is_ciphertexts(self) -> bool
         ensures { result ≡ is_ciphertexts self }
@@ -43,6 +27,24 @@ impl Kind {
         ensures { result ≡ is_unknown self }
     {
         matches!(self, Kind::Unknown(_))
+    }
+}
+
+// The number that a file gives it.
+impl From<Kind> for u32 {
+    ghost from_gives = { λ kind number. number ≡ number_of kind };
+
+    fn from(kind: Kind) -> u32 {
+        match kind {
+            Kind::SecretKey => 1,
+            Kind::SignedSecretKey => 2,
+            Kind::SwitchingKey => 3,
+            Kind::PublicKey => 4,
+            Kind::Ciphertexts => 5,
+            Kind::Packed => 6,
+            Kind::Messages => 7,
+            Kind::Unknown(number) => number,
+        }
     }
 }
 
