@@ -1,29 +1,48 @@
 -- Laws of the words of a codec.
 -- Assumes nothing.
-use mathlib.Core.Path.{◌≡◌, sym, ap, ◌∙◌}
-use Prim.Native.Nat.{ℕ, ◌+◌, ◌-◌, ◌*◌, ◌/◌, ◌%◌, ◌^◌, ◌≤◌, ◌<◌}
-use native.Mathlib.Nat.{mul-le-mul}
-use native.Mathlib.Omega.{arith}
+use Rattle.std.proofs.Common.{◌≡◌, ℕ, ◌-◌, ◌%◌, ◌^◌, ◌<◌, ◌≤◌, Bool, pos, refl, sym, ◌∙◌, ne_eqb, arith}
+use Rattle.scheme.specs.Numbers.{residue}
+use Rattle.scheme.specs.Modulus as S
 use Rattle.scheme.specs.Codec.{encode, encode_centered, centered_start}
-use Rattle.scheme.proofs.Codec.{encode-most, centered_high, centered_low}
-use Rattle.codec_words.specs.Words.{Moduli}
+use Rattle.scheme.specs.Checks.{first_in}
+use Rattle.scheme.proofs.Codec.{encode-below, centered_below, centered_high, centered_low}
+use Rattle.scheme.proofs.Checks.{Coded, coded}
+use Rattle.scheme.proofs.Order.{Sized, late, passed}
+use Rattle.primus_reduce.specs.Ring.{meant, size_of, modulo}
+use Rattle.primus_reduce.specs.declared.modulus.Modulus.{Modulus}
+use Rattle.primus_reduce.specs.declared.modulus.Modulus.TheVariants as M
+use Rattle.codec_words.specs.Words.{size_rows}
 
--- the product of a word and a number up to 2^32
-pub product-most : (x y : ℕ) → x < 2 ^ 32 → y ≤ 2 ^ 32 → x * y ≤ 4294967295 * 4294967296
-product-most x y h k = mul-le-mul {n₁ = x} {m₁ = y} {n₂ = 4294967295} {m₂ = 4294967296} (omega arith) k
+-- q is at most 2^32
+pub size_most : (m : Modulus) → S.Fits 32 (meant m) → size_of m ≤ 2 ^ 32
+size_most M.Native f = omega arith
+size_most (M.Explicit q) f = omega arith
 
--- ---- leaves
+-- what 2, 7 and 8 let through
+pub let_through : (t : ℕ) (m : Modulus) (b : Bool) → t < 2 ^ 32 → Sized (size_rows t m b) 0 → Coded 32 t (meant m)
+unfolding first_in
+let_through t m b f s =
+    let no = passed (size_rows t m b) (sym (late (size_rows t m b) s refl refl)) in coded 32 t (meant m) f (no 7 tt) (no 8 tt)
 
-pub start_is : (t : ℕ) → t / 2 + t % 2 ≡ centered_start t
-start_is t = omega arith
+-- an encoding is a word
+pub encode_fits : (q t x : ℕ) → x < t → t < q → q ≤ 2 ^ 32 → encode q t x < 2 ^ 32
+encode_fits q t x h k m = omega (arith, encode-below q t x h k)
 
-module _ (t q x : ℕ) (m : Moduli t q) (h : x < t) where
-  pub centered_fits : (s : ℕ) → s ≡ encode q t (t - x) → s ≤ q
-  centered_fits s e = omega (arith, encode-most q t (t - x) (omega arith) (omega arith))
+pub encode_most : (q t x : ℕ) → x < t → t < q → encode q t x ≤ q
+encode_most q t x h k = omega (arith, encode-below q t x h k)
 
-  -- the two ways through Centered
-  pub centered_from : (n s : ℕ) → n ≡ centered_start t → s ≡ encode q t (t - x) → n ≤ x → q - s ≡ encode_centered q t x
-  centered_from n s en es k = ap (λ y. q - y) es ∙ sym (centered_high q t x (omega arith))
+-- the two ways through Centered
+module _ (t q x n : ℕ) (h : x < t) (k : t < q) (en : n ≡ centered_start t) where
+  pub high_fits : q ≤ 2 ^ 32 → n ≤ x → q - encode q t (t - x) < 2 ^ 32
+  high_fits m l = omega (arith, centered_below q t x h k, centered_high q t x (omega arith))
 
-  pub centered_until : (n s : ℕ) → n ≡ centered_start t → s ≡ encode q t x → x < n → s ≡ encode_centered q t x
-  centered_until n s en es k = es ∙ sym (centered_low q t x (omega arith))
+  pub centered_from : n ≤ x → q - encode q t (t - x) ≡ encode_centered q t x
+  centered_from l = sym (centered_high q t x (omega arith))
+
+  pub centered_until : x < n → encode q t x ≡ encode_centered q t x
+  centered_until l = sym (centered_low q t x (omega arith))
+
+-- a decoding before and after mod t
+pub reduced : (t x r : ℕ) → 2 ≤ t → r ≡ modulo t (pos x) → r ≡ x % t
+unfolding residue
+reduced t x r h e = e ∙ rw (ne_eqb t 0 (λ z. omega arith)) refl

@@ -1,11 +1,11 @@
 -- The one body of the calls: what is done with a word is a value k, and what is judged and written follows from it.
-use Rattle.std.specs.Prelude.{Bool, false, List, [], ◌∷◌, ℕ, length}
+use Rattle.std.specs.Prelude.{Bool, false, List, [], ◌∷◌, ℕ, length, Result}
 use Rattle.scheme.specs.Codec.{decode}
 use Rattle.scheme.specs.Checks.{Check, row, Writes, words_fail, message_fails, messages_fail}
 use Rattle.primus_reduce.specs.Ring.{size_of}
 use Rattle.primus_reduce.specs.declared.modulus.Modulus.{Modulus}
-use Rattle.checks.specs.Answers.{word_answer}
-use Rattle.checks.specs.declared.WordAnswer.{WordAnswer}
+use Rattle.check_order.specs.declared.refusal.Refusal.{Refusal}
+use Rattle.check_order.specs.Answer.{answer}
 use Rattle.primus_encoding.specs.declared.coding.Coding.{Coding}
 use Rattle.primus_encoding.specs.declared.coding.Coding.TheVariants.{Encode, Decode, AddEncoding}
 use Rattle.primus_encoding.specs.Answers.{encode_word, add_word, encode_rows, decode_rows, add_rows}
@@ -33,8 +33,8 @@ coded_word (Encode e) t m x h = encode_word e (size_of m) t x
 coded_word Decode t m x h = decode (size_of m) t x
 coded_word (AddEncoding e) t m x h = add_word e (size_of m) t h x
 
-abbrev pub coded_answer : Coding → ℕ → Modulus → ℕ → ℕ → WordAnswer
-coded_answer k t m x h = word_answer (word_rows k t m x h) (coded_word k t m x h)
+abbrev pub coded_answer : Coding → ℕ → Modulus → ℕ → ℕ → Result ℕ Refusal
+coded_answer k t m x h = answer (word_rows k t m x h) (coded_word k t m x h)
 
 -- ---- of the words xs, where the output holds hs
 

@@ -1,17 +1,18 @@
 // One body for all calls of the codec: what is done with a word is a value, and the checks follow from it.
-ghost use Rattle.std.specs.Prelude.{◌≡◌, false, length};
+ghost use Rattle.std.specs.Prelude.{◌≡◌, ◌<◌, false, length, IfOk};
 ghost use Rattle.scheme.specs.Checks.{refusal};
-ghost use Rattle.scheme.proofs.Checks.{Coded};
-ghost use Rattle.primus_reduce.specs.Ring.{meant};
-ghost use Rattle.primus_encoding.specs.Answers.{or_zero};
+ghost use Rattle.primus_reduce.specs.Ring.{size_of};
+ghost use Rattle.check_order.specs.Answer.{code_of};
+ghost use Rattle.primus_encoding.specs.Answers.{encode_word, or_zero};
 ghost use Rattle.primus_encoding.specs.Coding.{message_fault, coded_word, coded_answer};
 ghost use Rattle.primus_encoding.specs.Coding.{slice_rows, words_fault, messages_fault, coded, CodesSlice};
 
-use crate::{PlaintextEmbedding, helpers};
-use check_order::Values;
-use checks::WordAnswer;
+use crate::{PlaintextEmbedding, RoundedCodec};
+use check_order::{Refusal, Values};
+use codec_words::Moduli;
 use primus_reduce::Modulus;
 
+// Stays: an enum, no closures: what a kind judges, what it makes of a word and what it ensures are three matches over one value.
 #[derive(Clone, Copy)]
 pub(crate) enum Coding {
     Encode(PlaintextEmbedding),
@@ -20,17 +21,29 @@ pub(crate) enum Coding {
     AddEncoding(PlaintextEmbedding),
 }
 
-// The word for x, where the output holds `held`.
-fn code_word(coding: Coding, t: u32, modulus: Modulus, x: u32, held: u32) -> u32
-    requires { Coded 32 t (meant modulus) × (message_fault coding t x ≡ false) }
-    ensures { result ≡ coded_word coding t modulus x held }
+// encode(m)
+fn encode_word(moduli: Moduli, embedding: PlaintextEmbedding, message: u32) -> u32
+    requires { message < moduli.t }
+    ensures { result ≡ encode_word embedding (size_of moduli.modulus) moduli.t message }
 {
-    let q = modulus.size();
+    match embedding {
+        PlaintextEmbedding::Unsigned => moduli.encode(message),
+        PlaintextEmbedding::Centered => moduli.encode_centered(message),
+    }
+}
+
+// The word for x, where the output holds `held`.
+fn code_word(coding: Coding, moduli: Moduli, x: u32, held: u32) -> u32
+    requires { message_fault coding moduli.t x ≡ false }
+    ensures { result ≡ coded_word coding moduli.t moduli.modulus x held }
+{
     match coding {
-        Coding::Encode(embedding) => helpers::encode_word(embedding, t, q, x),
-        Coding::Decode => codec_words::decode_word(t, q, x),
+        Coding::Encode(embedding) => encode_word(moduli, embedding, x),
+        Coding::Decode => moduli.decode(x),
         Coding::AddEncoding(embedding) => {
-            modulus.reduce_add(held, helpers::encode_word(embedding, t, q, x))
+            moduli
+                .modulus()
+                .reduce_add(held, encode_word(moduli, embedding, x))
         }
     }
 }
@@ -51,98 +64,86 @@ fn messages_refused(coding: Coding, t: u32, input: &[u32]) -> bool
     ensures { result ≡ messages_fault coding t input.now }
 {
     match coding {
-        Coding::Encode(_) => checks::messages_refused(t, input),
+        Coding::Encode(_) | Coding::AddEncoding(_) => checks::messages_refused(t, input),
         Coding::Decode => false,
-        Coding::AddEncoding(_) => checks::messages_refused(t, input),
     }
 }
 
-fn slice_refusal(coding: Coding, t: u32, modulus: Modulus, input: &[u32], held: &[u32]) -> u32
-    ensures { result ≡ refusal (slice_rows coding t modulus input.now held.now) }
+fn write_words(coding: Coding, moduli: Moduli, input: &[u32], output: &mut [u32])
+    requires { (messages_fault coding moduli.t input.now ≡ false) × (length output.old ≡ length input.now) }
+    ensures { output.new ≡ coded coding moduli.t moduli.modulus input.now output.old }
 {
-    let r = codec_words::sizes_refusal(t, modulus, checks::length_differs(held.len(), input.len()));
-    if r != 0 {
-        return r;
-    }
-    let mut v = Values::NONE;
-    v.word = words_refused(coding, modulus, input, held);
-    v.message = messages_refused(coding, t, input);
-    v.first()
-}
-
-fn write_words(coding: Coding, t: u32, modulus: Modulus, input: &[u32], output: &mut [u32])
-    requires { Coded 32 t (meant modulus) × (messages_fault coding t input.now ≡ false) ×
-        (length output.old ≡ length input.now) }
-    ensures { output.new ≡ coded coding t modulus input.now output.old }
-{
-    let mut i = 0;
-    while i < output.len() {
-        output[i] = code_word(coding, t, modulus, input[i], output[i]);
-        i += 1;
+    for (i, word) in output.iter_mut().enumerate() {
+        *word = code_word(coding, moduli, input[i], *word);
     }
 }
 
-fn replace_words(coding: Coding, t: u32, modulus: Modulus, values: &mut [u32])
-    requires { Coded 32 t (meant modulus) × (messages_fault coding t values.old ≡ false) }
-    ensures { values.new ≡ coded coding t modulus values.old values.old }
+fn replace_words(coding: Coding, moduli: Moduli, values: &mut [u32])
+    requires { messages_fault coding moduli.t values.old ≡ false }
+    ensures { values.new ≡ coded coding moduli.t moduli.modulus values.old values.old }
 {
-    let mut i = 0;
-    while i < values.len() {
-        values[i] = code_word(coding, t, modulus, values[i], values[i]);
-        i += 1;
+    for word in values.iter_mut() {
+        *word = code_word(coding, moduli, *word, *word);
     }
 }
 
-// Each word of the input, in its place.
-pub(crate) fn code_slice_to(
-    coding: Coding,
-    t: u32,
-    modulus: Modulus,
-    input: &[u32],
-    output: &mut [u32],
-) -> u32
-    ensures { CodesSlice coding t modulus input.now output.old result output.new }
-{
-    let r = slice_refusal(coding, t, modulus, input, output);
-    if r != 0 {
-        return r;
+impl RoundedCodec {
+    // The moduli of a call that is not refused.
+    fn judge_slice(self, coding: Coding, input: &[u32], held: &[u32]) -> Result<Moduli, Refusal>
+        ensures first { code_of result ≡ refusal (slice_rows coding self.plaintext_modulus
+            self.ciphertext_modulus input.now held.now) }
+        ensures moduli { IfOk result (λ m. (m.t ≡ self.plaintext_modulus) × (m.modulus ≡ self.ciphertext_modulus)) }
+    {
+        let t = self.plaintext_modulus;
+        let modulus = self.ciphertext_modulus;
+        let differs = checks::length_differs(held.len(), input.len());
+        let moduli = Moduli::judge(t, modulus, differs)?;
+        let mut v = Values::NONE;
+        v.word = words_refused(coding, modulus, input, held);
+        v.message = messages_refused(coding, t, input);
+        v.judge()?;
+        Ok(moduli)
     }
-    write_words(coding, t, modulus, input, output);
-    0
-}
 
-// In place: the input is what the output holds.
-pub(crate) fn code_slice_assign(coding: Coding, t: u32, modulus: Modulus, values: &mut [u32]) -> u32
-    ensures { CodesSlice coding t modulus values.old values.old result values.new }
-{
-    let r = slice_refusal(coding, t, modulus, values, values);
-    if r != 0 {
-        return r;
+    // Each word of the input, in its place.
+    pub(crate) fn code_slice_to(
+        self,
+        coding: Coding,
+        input: &[u32],
+        output: &mut [u32],
+    ) -> Result<(), Refusal>
+        ensures { CodesSlice coding self.plaintext_modulus self.ciphertext_modulus
+            input.now output.old (code_of result) output.new }
+    {
+        let moduli = self.judge_slice(coding, input, output)?;
+        write_words(coding, moduli, input, output);
+        Ok(())
     }
-    replace_words(coding, t, modulus, values);
-    0
-}
 
-// One word, as a slice of one.
-pub(crate) fn code_value(coding: Coding, t: u32, modulus: Modulus, x: u32, held: u32) -> WordAnswer
-    ensures { result ≡ coded_answer coding t modulus x held }
-{
-    let input = [x];
-    let mut word = [held];
-    let r = code_slice_to(coding, t, modulus, &input, &mut word);
-    if r != 0 {
-        return WordAnswer::Refused(r);
+    // In place: the input is what the output holds.
+    pub(crate) fn code_slice_assign(self, coding: Coding, values: &mut [u32]) -> Result<(), Refusal>
+        ensures { CodesSlice coding self.plaintext_modulus self.ciphertext_modulus
+            values.old values.old (code_of result) values.new }
+    {
+        let moduli = self.judge_slice(coding, values, values)?;
+        replace_words(coding, moduli, values);
+        Ok(())
     }
-    WordAnswer::Word(word[0])
-}
 
-// The word, or 0 where it is refused.
-pub(crate) fn value_or_zero(coding: Coding, t: u32, modulus: Modulus, x: u32) -> u32
-    ensures { result ≡ or_zero (coded_answer coding t modulus x 0) }
-{
-    let answer = code_value(coding, t, modulus, x, 0);
-    match answer {
-        WordAnswer::Word(word) => word,
-        WordAnswer::Refused(_) => 0,
+    // One word, as a slice of one.
+    pub(crate) fn code_value(self, coding: Coding, x: u32, held: u32) -> Result<u32, Refusal>
+        ensures { result ≡ coded_answer coding self.plaintext_modulus self.ciphertext_modulus x held }
+    {
+        let input = [x];
+        let mut word = [held];
+        self.code_slice_to(coding, &input, &mut word)?;
+        Ok(word[0])
+    }
+
+    // The word, or 0 where it is refused.
+    pub(crate) fn value_or_zero(self, coding: Coding, x: u32) -> u32
+        ensures { result ≡ or_zero (coded_answer coding self.plaintext_modulus self.ciphertext_modulus x 0) }
+    {
+        self.code_value(coding, x, 0).unwrap_or(0)
     }
 }

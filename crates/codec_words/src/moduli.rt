@@ -1,0 +1,82 @@
+// The plaintext modulus t and the ciphertext modulus q of a codec, and what is made of a word under them.
+ghost use Rattle.std.specs.Prelude.{◌≡◌, ◌<◌, ◌≤◌};
+ghost use Rattle.primus_reduce.specs.Ring.{size_of};
+
+use crate::switch::switch_value;
+use check_order::{Refusal, Sizes};
+use primus_reduce::Modulus;
+
+// t and q that 2, 7 and 8 let through.
+#[derive(Clone, Copy)]
+pub struct Moduli {
+    t: u32,
+    modulus: Modulus,
+    ghost least: { 2 ≤ t },
+    ghost below: { t < size_of modulus },
+}
+
+impl Moduli {
+    ghost use Rattle.std.specs.Prelude.{IfOk};
+    ghost use Rattle.scheme.specs.Codec.{encode, centered_start, encode_centered, decode};
+    ghost use Rattle.scheme.proofs.Order.{Sized};
+    ghost use Rattle.check_order.specs.Answer.{code_of};
+    ghost use Rattle.codec_words.specs.Words.{size_rows};
+
+    // The two, or the first of 2, 7, 8 and 11; 11 applies where `differs`.
+    pub fn judge(t: u32, modulus: Modulus, differs: bool) -> Result<Moduli, Refusal>
+        ensures first { Sized (size_rows t modulus differs) (code_of result) }
+        ensures moduli { IfOk result (λ m. (m.t ≡ t) × (m.modulus ≡ modulus)) }
+    {
+        let mut s = Sizes::NONE;
+        s.modulus = checks::modulus_refused(modulus);
+        s.plaintext = checks::plaintext_refused(t);
+        s.small = checks::small_refused(t, modulus);
+        s.output = differs;
+        s.judge()?;
+        Ok(Moduli { t, modulus })
+    }
+
+    // q
+    pub fn modulus(self) -> Modulus
+        ensures { result ≡ self.modulus }
+    {
+        self.modulus
+    }
+
+    // ⌈t/2⌉, the first message that Centered lifts to a negative number.
+    fn centered_negative_start(self) -> u32
+        ensures { result ≡ centered_start self.t }
+    {
+        self.t / 2 + self.t % 2
+    }
+
+    // encode(m)
+    #[tactic(auto, using(crate::proofs::Laws::size_most, crate::proofs::Laws::encode_fits))]
+    pub fn encode(self, message: u32) -> u32
+        requires { message < self.t }
+        ensures { result ≡ encode (size_of self.modulus) self.t message }
+    {
+        switch_value(self.t as u64, self.modulus.size(), message) as u32
+    }
+
+    // Centered: q − encode(t − m) from ⌈t/2⌉ on.
+    #[tactic(auto, using(crate::proofs::Laws::size_most, crate::proofs::Laws::encode_most, crate::proofs::Laws::high_fits, crate::proofs::Laws::centered_from, crate::proofs::Laws::centered_until))]
+    pub fn encode_centered(self, message: u32) -> u32
+        requires { message < self.t }
+        ensures { result ≡ encode_centered (size_of self.modulus) self.t message }
+    {
+        if self.centered_negative_start() <= message {
+            (self.modulus.size() - self.encode(self.t - message) as u64) as u32
+        } else {
+            self.encode(message)
+        }
+    }
+
+    // decode(p) = ⌊(2pt + q) / 2q⌋ mod t
+    #[tactic(auto, using(crate::proofs::Laws::size_most, crate::proofs::Laws::reduced))]
+    pub fn decode(self, value: u32) -> u32
+        ensures { result ≡ decode (size_of self.modulus) self.t value }
+    {
+        Modulus::Explicit(self.t).reduce(switch_value(self.modulus.size(), self.t as u64, value))
+    }
+}
