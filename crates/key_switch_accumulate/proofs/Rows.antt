@@ -12,28 +12,30 @@ use Rattle.scheme.proofs.Integers.{⊖-eq, diff}
 use Rattle.scheme.proofs.Residue.{cong_refl, cong_sym, cong_residue}
 use Rattle.scheme.proofs.InPlace.{Filled, filled_word, length_zip, zip_at, map_at}
 use Rattle.key_switch_tile.specs.Rows.{Spare, Less}
-use Rattle.key_switch_accumulate.specs.Rows.{Roomy, Kept}
+use mathlib.Core.Bool.{Bool, true, false}
+use Rattle.key_switch_accumulate.specs.Rows.{Roomy, Kept, addend_of}
 
--- a word y of at most q: a × y and a × (q − y) are at most a × q
+-- an addend of a word of at most q is at most q
+pub addend-most : (b : Bool) (q y : ℕ) → y ≤ q → addend_of b q y ≤ q
+addend-most true q y h = omega arith
+addend-most false q y h = h
+
 times_most : (a y q : ℕ) → y ≤ q → a * y ≤ a * q
 times_most a y q h = mul-le-mul_left a h
 
-less-most : (a y q : ℕ) → a * (q - y) ≤ a * q
-less-most a y q = mul-le-mul_left a (omega arith)
-
 -- the accumulator to come is as it was, so there is room
-module _ (q a : ℕ) (R acc₀ entry : List ℕ) (r : Roomy q a acc₀ entry) (acc : List ℕ) (k : ℕ) (f : Filled R acc₀ acc k) (h : k < length entry) where
+module _ (q a : ℕ) (R acc₀ entry : List ℕ) (r : Roomy q a acc₀ entry) (acc : List ℕ) (k : ℕ) (f : Filled R acc₀ acc k) (h : k < length acc) where
   pub at_acc : k < length acc₀
-  at_acc = omega (arith, r.same)
+  at_acc = omega (arith, f.same)
 
-  room_at : get_or acc k 0 + a * q < 2 ^ 64
-  room_at = rw (filled_word R acc₀ acc k f at_acc) (r.room k at_acc)
+  pub word_at : get_or entry k 0 ≤ q
+  word_at = omega (arith, r.entries k (omega (arith, r.same, at_acc)))
 
-  pub room_times : get_or acc k 0 + a * get_or entry k 0 < 2 ^ 64
-  room_times = omega (arith, room_at, times_most a (get_or entry k 0) q (omega (arith, r.entries k h)))
-
-  pub room-less : (get_or entry k 0 ≤ q) × (get_or acc k 0 + a * (q - get_or entry k 0) < 2 ^ 64)
-  room-less = (omega (arith, r.entries k h), omega (arith, room_at, less-most a (get_or entry k 0) q))
+  pub room_at : (y : ℕ) → y ≤ q → get_or acc k 0 + a * y < 2 ^ 64
+  room_at y m = omega (arith, room, times_most a y q m)
+    where
+      room : get_or acc k 0 + a * q < 2 ^ 64
+      room = rw (filled_word R acc₀ acc k f at_acc) (r.room k at_acc)
 
 -- x + d (q − y) is x − d y, and x + (q − d) y too
 cong_less : (q d x y : ℕ) → y ≤ q → Cong q (pos (x + d * (q - y))) (pos x -ℤ pos d *ℤ pos y)
@@ -48,7 +50,7 @@ cong_more q d x y h = record { turns = pos y; eq = go (q - d) (omega arith) }
     go : (s : ℕ) → q ≡ s + d → pos (x + s * y) ≡ pos x -ℤ pos d *ℤ pos y +ℤ pos q *ℤ pos y
     go s e = rw e (simp diff (⊖-eq _ _ _ _ (omega arith)))
 
-module _ (q half d : ℕ) (acc entry : List ℕ) (l : Spare q half d acc entry) where
+module _ (q half d : ℕ) (acc entry : List ℕ) (l : Spare q half (half * q) d acc entry) where
   word : (c : ℕ) → c < length acc → get_or entry c 0 ≤ q
   word c k = omega (arith, l.entries c (omega (arith, l.same)))
 
@@ -63,7 +65,7 @@ module _ (q half d : ℕ) (acc entry : List ℕ) (l : Spare q half d acc entry) 
       record {
         same = ap length e ∙ length_zip _ acc entry l.same;
         word = λ c k. rw (at c k) (cong_less q d (get_or acc c 0) (get_or entry c 0) (word c k));
-        most = λ c k. rw (at c k) (omega (arith, less-most d (get_or entry c 0) q, mul-le-mul_right {m = d} {n = half} q (omega arith)));
+        most = λ c k. rw (at c k) (omega (arith, times_most d (q - get_or entry c 0) q (omega arith), mul-le-mul_right {m = d} {n = half} q (omega arith)));
       }
     where
       at : (c : ℕ) → c < length acc → get_or acc' c 0 ≡ get_or acc c 0 + d * (q - get_or entry c 0)
@@ -81,6 +83,9 @@ module _ (q half d : ℕ) (acc entry : List ℕ) (l : Spare q half d acc entry) 
       at c k = ap (λ l. get_or l c 0) e ∙ zip_at (λ x y. x + (q - d) * y) acc entry c l.same k
 
 -- ---- reductions
+
+pub mapped_length : (f : ℕ → ℕ) (xs : List ℕ) → length (map f xs) ≡ length xs
+mapped_length f xs = length-map xs f
 
 cong_mod : (q x : ℕ) → 0 < q → Cong q (pos (x % q)) (pos x)
 unfolding residue

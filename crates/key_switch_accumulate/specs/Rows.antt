@@ -1,7 +1,12 @@
 -- Rows of exact sums: room for more, and reduction.
-use Rattle.std.specs.Prelude.{◌≡◌, List, ℕ, ◌+◌, ◌*◌, ◌^◌, ◌<◌, ◌≤◌, pos, length, get_or}
+use Rattle.std.specs.Prelude.{◌≡◌, Bool, true, false, List, ℕ, ◌+◌, ◌-◌, ◌*◌, ◌^◌, ◌<◌, ◌≤◌, pos, length, get_or}
 use Rattle.scheme.specs.Numbers.{Cong}
 use Rattle.scheme.specs.Switch.{Below}
+
+-- y, or what it leaves of q
+abbrev pub addend_of : Bool → ℕ → ℕ → ℕ
+addend_of true q y = q - y
+addend_of false q y = y
 
 -- a times a word can be added to each accumulator
 pub record Roomy (q a : ℕ) (acc entry : List ℕ) : Type 0 where

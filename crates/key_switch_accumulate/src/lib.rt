@@ -5,24 +5,24 @@
 ghost use Rattle.std.specs.Prelude.{◌≡◌, ◌+◌, ◌-◌, ◌*◌, ◌%◌, ◌^◌, ◌<◌, ◌≤◌, length};
 ghost use mathlib.Core.List.{map, zip_with};
 ghost use Rattle.key_switch_tile.specs.Rows.{Spare, Less};
-ghost use Rattle.key_switch_accumulate.specs.Rows.{Roomy, Kept};
+ghost use Rattle.key_switch_accumulate.specs.Rows.{Roomy, Kept, addend_of};
 
 use primus_reduce::Modulus;
+
+// What y leaves of q, or y.
+fn addend(opposite: bool, y: u32, q: u32) -> u32
+    requires { y ≤ q }
+    ensures { result ≡ addend_of opposite q y }
+{
+    if opposite { q - y } else { y }
+}
 
 // x + a × y
 fn more(x: u64, a: u32, y: u32) -> u64
     requires { x + a * y < 2 ^ 64 }
     ensures { result ≡ x + a * y }
 {
-    x + a as u64 * y as u64
-}
-
-// x + a × (q − y)
-fn more_less(x: u64, a: u32, y: u32, q: u32) -> u64
-    requires { (y ≤ q) × (x + a * (q - y) < 2 ^ 64) }
-    ensures { result ≡ x + a * (q - y) }
-{
-    x + a as u64 * (q - y) as u64
+    x + u64::from(a) * u64::from(y)
 }
 
 // x mod q
@@ -30,55 +30,40 @@ fn reduce(x: u64, q: u32) -> u32
     requires { 0 < q }
     ensures { result ≡ x % q }
 {
-    let modulus = Modulus::Explicit(q);
-    modulus.reduce(x)
+    Modulus::Explicit(q).reduce(x)
 }
 
-// acc + a × entry
-fn add_multiple(acc: &mut [u64], entry: &[u32], a: u32, q: u32)
+// acc + a × (q − entry), which is acc − a × entry modulo q, or acc + a × entry
+#[tactic(auto, using(scheme::proofs::InPlace::filled_start, scheme::proofs::InPlace::filled_end, scheme::proofs::InPlace::length_zip))]
+fn add_multiple(acc: &mut [u64], opposite: bool, entry: &[u32], a: u32, q: u32)
     requires { Roomy q a acc.old entry.now }
-    ensures { acc.new ≡ zip_with (λ x y. x + a * y) acc.old entry.now }
+    ensures { acc.new ≡ zip_with (λ x y. x + a * addend_of opposite q y) acc.old entry.now }
 {
-    let mut k = 0;
-    while k < entry.len() {
-        acc[k] = more(acc[k], a, entry[k]);
-        k += 1;
-    }
-}
-
-// acc + a × (q − entry), which is acc − a × entry modulo q
-fn take_multiple(acc: &mut [u64], entry: &[u32], a: u32, q: u32)
-    requires { Roomy q a acc.old entry.now }
-    ensures { acc.new
-        ≡ zip_with (λ x y. x + a * (q - y)) acc.old entry.now }
-{
-    let mut k = 0;
-    while k < entry.len() {
-        acc[k] = more_less(acc[k], a, entry[k], q);
-        k += 1;
+    for (k, x) in acc.iter_mut().enumerate() {
+        let y = addend(opposite, entry[k], q);
+        *x = more(*x, a, y);
     }
 }
 
 // acc − digit × entry modulo q. A digit from B/2 on stands for q less: its opposite is added.
 pub fn accumulate_entry(acc: &mut [u64], entry: &[u32], digit: u32, half: u32, q: u32)
-    requires { Spare q half digit acc.old entry.now }
+    requires { Spare q half (half * q) digit acc.old entry.now }
     ensures { Less q (half * q) digit entry.now acc.old acc.new }
 {
     if digit < half {
-        take_multiple(acc, entry, digit, q);
+        add_multiple(acc, true, entry, digit, q);
     } else {
-        add_multiple(acc, entry, q - digit, q);
+        add_multiple(acc, false, entry, q - digit, q);
     }
 }
 
+#[tactic(auto, using(scheme::proofs::InPlace::filled_start, scheme::proofs::InPlace::filled_end, crate::proofs::Rows::mapped_length))]
 fn reduce_all(acc: &mut [u64], q: u32)
     requires { 0 < q }
     ensures { acc.new ≡ map (λ x. x % q) acc.old }
 {
-    let mut k = 0;
-    while k < acc.len() {
-        acc[k] = reduce(acc[k], q) as u64;
-        k += 1;
+    for x in acc.iter_mut() {
+        *x = u64::from(reduce(*x, q));
     }
 }
 
@@ -89,32 +74,30 @@ pub fn keep_room(acc: &mut [u64], ceiling: u64, limit: u64, q: u32) -> u64
 {
     if limit < ceiling {
         reduce_all(acc, q);
-        q as u64
+        u64::from(q)
     } else {
         ceiling
     }
 }
 
 // acc becomes `words`
+#[tactic(auto, using(scheme::proofs::InPlace::filled_start, scheme::proofs::InPlace::filled_end, scheme::proofs::InPlace::filled_next))]
 pub fn load(acc: &mut [u64], words: &[u32])
     requires { length acc.old ≡ length words.now }
     ensures { acc.new ≡ words.now }
 {
-    let mut k = 0;
-    while k < acc.len() {
-        acc[k] = words[k] as u64;
-        k += 1;
+    for (k, x) in acc.iter_mut().enumerate() {
+        *x = u64::from(words[k]);
     }
 }
 
 // out becomes acc mod q
+#[tactic(auto, using(scheme::proofs::InPlace::filled_start, scheme::proofs::InPlace::filled_end, crate::proofs::Rows::mapped_length))]
 pub fn reduce_to(out: &mut [u32], acc: &[u64], q: u32)
     requires { (0 < q) × (length out.old ≡ length acc.now) }
     ensures { out.new ≡ map (λ x. x % q) acc.now }
 {
-    let mut k = 0;
-    while k < out.len() {
-        out[k] = reduce(acc[k], q);
-        k += 1;
+    for (k, x) in out.iter_mut().enumerate() {
+        *x = reduce(acc[k], q);
     }
 }

@@ -1,6 +1,6 @@
 -- The loop over the places, for exact sums.
 -- Assumes nothing.
-use mathlib.Core.Path.{◌≡◌, sym, ◌∙◌, ap, subst}
+use mathlib.Core.Path.{◌≡◌, refl, sym, ◌∙◌, ap, subst}
 use mathlib.Core.List.{List, map}
 use Prim.Native.Nat.{ℕ, zero, suc, ◌+◌, ◌*◌, ◌-◌, ◌/◌, ◌%◌, ◌^◌, ◌<◌, ◌≤◌}
 use native.Mathlib.Omega.{arith}
@@ -8,6 +8,7 @@ use native.Mathlib.Nat.{mul-le-mul_right, mod-eq_of_lt}
 use lib.IntN.{pos}
 use lib.ListN.{length, get_or, length-map}
 use lib.Pow.{pow-lt}
+use Rattle.std.proofs.lemmas.List.{map-id}
 use Rattle.scheme.specs.Numbers.{residue, Cong}
 use Rattle.scheme.specs.Basis.{half}
 use Rattle.scheme.specs.Switch.{switched_batch}
@@ -22,7 +23,7 @@ use Rattle.gadget_constants.specs.Prepared.{basis_in}
 use Rattle.key_switch_tile.specs.Rows.{Near}
 use Rattle.key_switch_tile.specs.Tile.{tile, lane, Place, PlaceRoom, Placed, Shaped, Lanes, begun, Reached}
 use Rattle.key_switch_tile.proofs.Lanes.{in_run}
-use Rattle.key_switch_tile.proofs.Walks.{q_pos, q_most, twice, levels-most, digit-near, start-most, reached_start, reached_next, reached_all, place_asks}
+use Rattle.key_switch_tile.proofs.Walks.{q_pos, q_most, twice, levels-most, digit-near, start-most, reached_start, reached_next, place_asks}
 use Rattle.key_switch_accumulate.specs.Rows.{Kept}
 
 -- the numbers that the loop is set up with: q, B/2, the most that a place adds, and the limit that leaves room for it
@@ -33,9 +34,7 @@ pub record Costs (p : PreparedBasis) (q h cost limit : ℕ) : Type 0 where
   pub leaves : limit ≡ 18446744073709551615 - cost
 
 -- the places below i are done, and no accumulator is above the ceiling
-pub record Walking (p : PreparedBasis) (n m rows : ℕ) (input key acc : List ℕ) (ceiling at i : ℕ) : Type 0 where
-  pub upto : i ≤ n
-  pub place : at ≡ i * (p.level_count * (m + 1))
+pub record Walking (p : PreparedBasis) (n m rows : ℕ) (input key acc : List ℕ) (ceiling i : ℕ) : Type 0 where
   pub reached : Reached p n m rows i input key acc
   pub most : (t c : ℕ) → t < rows → c < m + 1 → get_or acc (t * (m + 1) + c) 0 ≤ ceiling
 
@@ -65,6 +64,9 @@ module _ {p : PreparedBasis} {n m rows : ℕ} {input key : List ℕ} (sh : Shape
       halved : p.level_count * h ≤ 2 ^ 31
       halved = omega (arith, levels-most sh, ap (λ x. p.level_count * x) (double (twice sh)))
 
+  pub costs_of : {q h cost : ℕ} → size_of p.modulus ≡ q → h ≡ 2 ^ p.log_basis / 2 → cost ≡ p.level_count * (h * q) → Costs p q h cost (18446744073709551615 - cost)
+  costs_of eq eh ec = record { modulus = eq; halved = eh; costs = ec; leaves = refl }
+
   module _ {q h cost limit : ℕ} (k : Costs p q h cost limit) where
     small : p.level_count * (h * q) ≤ 2 ^ 63
     small = cost_small q h k.modulus k.halved
@@ -72,18 +74,16 @@ module _ {p : PreparedBasis} {n m rows : ℕ} {input key : List ℕ} (sh : Shape
     pub room_asks : (0 < q) × (q ≤ limit)
     room_asks = (omega (arith, q_pos sh, k.modulus), omega (arith, small, q_most sh, k.modulus, k.costs, k.leaves))
 
-    pub walking_start : {acc : List ℕ} → acc ≡ begun n m rows input → Walking p n m rows input key acc q 0 0
-    walking_start {acc} e =
+    pub walking_start : {acc : List ℕ} → acc ≡ begun n m rows input → {first : ℕ} → first ≡ q → Walking p n m rows input key acc first 0
+    walking_start {acc} e f =
         record {
-          upto = omega arith;
-          place = omega arith;
           reached = reached_start sh acc e;
-          most = λ t c u v. omega (arith, start-most sh acc e t c u v, k.modulus);
+          most = λ t c u v. omega (arith, start-most sh acc e t c u v, k.modulus, f);
         }
 
-    module _ {acc : List ℕ} {ceiling at i : ℕ} (g : Walking p n m rows input key acc ceiling at i) where
-      pub walking_end : n ≤ i → Reached p n m rows n input key acc
-      walking_end e = reached_all sh i acc g.upto e g.reached
+    module _ {acc : List ℕ} {ceiling i : ℕ} (g : Walking p n m rows input key acc ceiling i) where
+      pub walking_end : i ≡ n → Reached p n m rows n input key acc
+      walking_end e = rw e at g.reached
 
       module _ (inside : i < n) {r : ℕ} {acc₁ : List ℕ} (kp : Kept q ceiling limit acc r acc₁) where
         in_acc : (t c : ℕ) → t < rows → c < m + 1 → t * (m + 1) + c < length acc
@@ -105,33 +105,35 @@ module _ {p : PreparedBasis} {n m rows : ℕ} {input key : List ℕ} (sh : Shape
         ceiling_fits = omega (arith, kp.low, small, k.costs, k.leaves)
 
         module _ {lanes : List SignedDecomposer} (l : Lanes p n rows i input lanes) where
-          pub walk_asks : rows ≤ tile → Place (m + 1) rows p.level_count at lanes key acc₁
-          walk_asks few = place_asks sh few i at inside g.place lanes l acc₁ reached₁.sized
+          pub walk_asks : rows ≤ tile → Place (m + 1) rows p.level_count (i * (p.level_count * (m + 1))) lanes key (map (λ x. x) acc₁)
+          walk_asks few = rw (map-id acc₁) (place_asks sh few i inside lanes l acc₁ reached₁.sized)
 
           near : (t j : ℕ) → t < rows → j < p.level_count → Near q h (step_digit (lane lanes t) j)
           near t j u v =
               subst (λ z. Near q z (step_digit (lane lanes t) j)) (sym k.halved)
               (subst (λ z. Near z (half (basis_in p)) (step_digit (lane lanes t) j)) k.modulus (digit-near sh i inside lanes l t j u v))
 
-          pub walk_room : PlaceRoom q h (m + 1) rows p.level_count lanes key acc₁
+          pub walk_room : PlaceRoom q h (h * q) (m + 1) rows p.level_count lanes key (map (λ x. x) acc₁)
           walk_room =
+              rw (map-id acc₁)
               record {
                 keys = λ x u. subst (λ z. get_or key x 0 < z) k.modulus (sh.keys x u);
                 digits = near;
                 room = λ t c u v. omega (arith, most₁ t c u v, ceiling_fits, k.costs);
               }
 
-          pub walking_on : {acc₂ : List ℕ} → Placed q (h * q) (m + 1) rows p.level_count at key lanes acc₁ acc₂
-              → Walking p n m rows input key acc₂ (r + cost) (at + p.level_count * (m + 1)) (i + 1)
+          pub walking_on : {acc₂ : List ℕ} → Placed q (h * q) (m + 1) rows p.level_count (i * (p.level_count * (m + 1))) key lanes (map (λ x. x) acc₁) (map (λ x. x) acc₂)
+              → Walking p n m rows input key acc₂ (r + cost) (i + 1)
           walking_on {acc₂} d =
               record {
-                upto = omega arith;
-                place = omega (arith, g.place);
                 reached =
-                    reached_next sh i at inside g.place lanes l (h * q) acc₁ acc₂ reached₁
-                    (subst (λ z. Placed z (h * q) (m + 1) rows p.level_count at key lanes acc₁ acc₂) (sym k.modulus) d);
-                most = λ t c u v. omega (arith, d.most t c u v, most₁ t c u v, k.costs);
+                    reached_next sh i inside lanes l (h * q) acc₁ acc₂ reached₁
+                    (subst (λ z. Placed z (h * q) (m + 1) rows p.level_count (i * (p.level_count * (m + 1))) key lanes acc₁ acc₂) (sym k.modulus) placed);
+                most = λ t c u v. omega (arith, placed.most t c u v, most₁ t c u v, k.costs);
               }
+            where
+              placed : Placed q (h * q) (m + 1) rows p.level_count (i * (p.level_count * (m + 1))) key lanes acc₁ acc₂
+              placed = rw (map-id acc₁, map-id acc₂) at d
 
 -- ---- numbers
 

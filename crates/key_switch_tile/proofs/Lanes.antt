@@ -8,8 +8,10 @@ use native.Mathlib.Decide.{ℕ_discrete}
 use borrow.Author.Tests.{eq-eqb, ne_eqb}
 use lib.Arith.{digits_lt}
 use lib.Dec.{eqb}
-use lib.ListN.{length, get_or, set, take, drop, length-set}
-use lib.Seq.{get_or-set_same, get_or-set_other}
+use lib.ListN.{length, get_or, set, take, drop, replicate, length-set, length-replicate}
+use lib.Seq.{get_or-set_same, get_or-set_other, ext_get_or}
+use Rattle.std.proofs.lemmas.List.{get_or-replicate}
+use mathlib.Core.Bool.{Bool, true, false}
 use Rattle.scheme.specs.Numbers.{pick, tabulate}
 use Rattle.scheme.specs.Lwe.{row_of}
 use Rattle.scheme.specs.Switch.{start_word}
@@ -46,16 +48,20 @@ module _ (p : PreparedBasis) (n rows i : ℕ) (input : List ℕ) where
         go u k (yes f) = rw f (get_or-set_same lanes t d _ (omega (arith, g.count)) ∙ e)
         go u k (no f) = get_or-set_other lanes t u d _ f ∙ g.is u (omega arith)
 
--- ---- (0, b)
+-- (0, b): zeros, and then the body in the last place
+pub start_row_is : (m body : ℕ) (zeros : List ℕ) → zeros ≡ replicate (m + 1) 0 → set zeros m body ≡ tabulate (m + 1) (λ c. pick (eqb c m) body 0)
+start_row_is m body zeros e =
+    ext_get_or 0 _ _ (length-set zeros m body ∙ wide ∙ sym (length-tabulate (m + 1) _)) (λ k h. go k (omega (arith, h, length-set zeros m body, wide)) (ℕ_discrete k m))
+  where
+    wide : length zeros ≡ m + 1
+    wide = ap length e ∙ length-replicate (m + 1) 0
 
-module _ (m body : ℕ) where
-  pub start_mask : (k : ℕ) → k < m → 0 ≡ get_or (tabulate (m + 1) (λ c. pick (eqb c m) body 0)) k 0
-  start_mask k h =
-      sym (get_d_tabulate (m + 1) (λ c. pick (eqb c m) body 0) k (omega arith) ∙ ap (λ t. pick t body 0) (ne_eqb k m (λ e. omega arith)))
+    there : (k : ℕ) → k < m + 1 → (b : Bool) → eqb k m ≡ b → pick b body 0 ≡ get_or (tabulate (m + 1) (λ c. pick (eqb c m) body 0)) k 0
+    there k h b f = sym (get_d_tabulate (m + 1) (λ c. pick (eqb c m) body 0) k h ∙ ap (λ t. pick t body 0) f)
 
-  pub start_body : (k : ℕ) → k ≡ m → body ≡ get_or (tabulate (m + 1) (λ c. pick (eqb c m) body 0)) k 0
-  start_body k e =
-      sym (get_d_tabulate (m + 1) (λ c. pick (eqb c m) body 0) k (omega arith) ∙ ap (λ t. pick t body 0) (eq-eqb k m e))
+    go : (k : ℕ) → k < m + 1 → Dec (k ≡ m) → get_or (set zeros m body) k 0 ≡ get_or (tabulate (m + 1) (λ c. pick (eqb c m) body 0)) k 0
+    go k h (yes f) = rw f (get_or-set_same zeros m body 0 (omega (arith, wide))) ∙ there k h true (eq-eqb k m f)
+    go k h (no f) = get_or-set_other zeros m k body 0 f ∙ ap (λ z. get_or z k 0) e ∙ get_or-replicate (m + 1) k 0 0 h ∙ there k h false (ne_eqb k m f)
 
 -- the row of a ciphertext of the run
 pub start_is : (n m t : ℕ) (input : List ℕ) → tabulate (m + 1) (λ c. pick (eqb c m) (get_or input (t * (n + 1) + n) 0) 0) ≡ tabulate (m + 1) (start_word n m (row_of n input t))

@@ -1,13 +1,14 @@
 -- The loop over the rows of a level.
 -- Assumes nothing.
-use mathlib.Core.Path.{◌≡◌, refl, sym, ◌∙◌, ap, ap₂}
+use mathlib.Core.Path.{◌≡◌, refl, sym, ◌∙◌, ap}
 use mathlib.Core.Logic.{◌≢◌}
-use mathlib.Core.List.{List, ◌++◌}
+use mathlib.Core.List.{List, ◌++◌, map}
 use Prim.Native.Nat.{ℕ, ◌+◌, ◌*◌, ◌-◌, ◌<◌, ◌≤◌}
 use native.Mathlib.Omega.{arith}
 use native.Mathlib.Decide.{ℕ_discrete}
 use lib.ListN.{length, get_or, set, take, drop, length-drop, length-set}
 use lib.Seq.{length-take-le, get_or-take, get_or-drop, get_or-set_same, get_or-set_other}
+use Rattle.std.proofs.lemmas.List.{map-append, take-map, drop-map}
 use Rattle.scheme.proofs.Rows.{row_within}
 use Rattle.gadget_digits.specs.declared.SignedDecomposer.{SignedDecomposer}
 use Rattle.gadget_digits.specs.declared.Step.{Step}
@@ -16,11 +17,22 @@ use Rattle.key_switch_tile.specs.Rows.{Spare, Less}
 use Rattle.key_switch_tile.specs.Tile.{tile, lane, Level, LevelRoom, RowLess, Leveled}
 use Rattle.key_switch_tile.proofs.Replaced.{replaced_in, replaced-length, row_other}
 
+-- the numbers of a part of w accumulators, and of the accumulators with that part replaced
+module _ {W : Type 0} (number : W → ℕ) (raw : List W) (at w : ℕ) where
+  width_is : at + w - at ≡ w
+  width_is = omega arith
+
+  pub number_part : map number (take (at + w - at) (drop at raw)) ≡ take w (drop at (map number raw))
+  number_part = rw (width_is, drop-map number at raw, take-map number w (drop at raw)) refl
+
+  pub number_new : (row : List W) → map number (take at raw ++ (row ++ drop (at + w - at) (drop at raw))) ≡ take at (map number raw) ++ (map number row ++ drop w (drop at (map number raw)))
+  number_new row =
+      rw (width_is, map-append number (take at raw) (row ++ drop w (drop at raw)), map-append number row (drop w (drop at raw)), take-map number at raw, drop-map number at raw, drop-map number w (drop at raw))
+      refl
+
 -- the rows below t are done
-pub record Rowing (q grow w rows : ℕ) (entry : List ℕ) (lanes₀ : List SignedDecomposer) (acc₀ : List ℕ) (lanes : List SignedDecomposer) (acc : List ℕ) (at t : ℕ) : Type 0 where
+pub record Rowing (q grow w rows : ℕ) (entry : List ℕ) (lanes₀ : List SignedDecomposer) (acc₀ : List ℕ) (lanes : List SignedDecomposer) (acc : List ℕ) (t : ℕ) : Type 0 where
   pub asks : Level w rows lanes₀ entry acc₀
-  pub upto : t ≤ rows
-  pub place : at ≡ t * w
   pub same : length acc ≡ length acc₀
   pub count : length lanes ≡ tile
   pub less : (u : ℕ) → u < t → RowLess q grow w (step_of (lane lanes₀ u)).digit entry acc₀ acc u
@@ -28,12 +40,10 @@ pub record Rowing (q grow w rows : ℕ) (entry : List ℕ) (lanes₀ : List Sign
   pub kept : (u c : ℕ) → t ≤ u → c < w → get_or acc (u * w + c) 0 ≡ get_or acc₀ (u * w + c) 0
   pub waits : (u : ℕ) → t ≤ u → lane lanes u ≡ lane lanes₀ u
 
-pub rowing_start : {w rows : ℕ} {entry : List ℕ} {lanes : List SignedDecomposer} {acc : List ℕ} (q grow : ℕ) → Level w rows lanes entry acc → Rowing q grow w rows entry lanes acc lanes acc 0 0
+pub rowing_start : {w rows : ℕ} {entry : List ℕ} {lanes : List SignedDecomposer} {acc : List ℕ} (q grow : ℕ) → Level w rows lanes entry acc → Rowing q grow w rows entry lanes acc lanes acc 0
 rowing_start q grow p =
     record {
       asks = p;
-      upto = omega arith;
-      place = omega arith;
       same = refl;
       count = p.count;
       less = λ u h. absurd (omega arith);
@@ -42,36 +52,23 @@ rowing_start q grow p =
       waits = λ u h. refl;
     }
 
-module _ {q grow w rows : ℕ} {entry : List ℕ} {lanes₀ : List SignedDecomposer} {acc₀ : List ℕ} {lanes : List SignedDecomposer} {acc : List ℕ} {at t : ℕ} (g : Rowing q grow w rows entry lanes₀ acc₀ lanes acc at t) where
-  pub rowing_end : rows ≤ t → Leveled q grow w rows entry lanes₀ acc₀ lanes acc
+module _ {q grow w rows : ℕ} {entry : List ℕ} {lanes₀ : List SignedDecomposer} {acc₀ : List ℕ} {lanes : List SignedDecomposer} {acc : List ℕ} {t : ℕ} (g : Rowing q grow w rows entry lanes₀ acc₀ lanes acc t) where
+  pub rowing_end : t ≡ rows → Leveled q grow w rows entry lanes₀ acc₀ lanes acc
   rowing_end h = record { count = g.count; same = g.same; less = λ u k. g.less u (omega arith); moved = λ u k. g.moved u (omega arith) }
 
   module _ (h : t < rows) where
-    inside : t * w + w ≤ length acc
+    pub inside : t * w + w ≤ length acc
     inside = omega (arith, g.same, g.asks.sized, row_within w rows t h)
-
-    pub in_acc : at + w ≤ length acc
-    in_acc = omega (arith, inside, g.place)
 
     pub in_lanes : t < length lanes
     in_lanes = omega (arith, g.count, g.asks.few)
 
-    width_is : at + w - at ≡ w
-    width_is = omega arith
-
     part : List ℕ
     part = take w (drop (t * w) acc)
-
-    part_is : take (at + w - at) (drop at acc) ≡ part
-    unfolding part
-    part_is = ap₂ (λ n k. take n (drop k acc)) width_is g.place
 
     part_sized : length part ≡ w
     unfolding part
     part_sized = length-take-le w (drop (t * w) acc) (omega (arith, length-drop (t * w) acc, inside))
-
-    pub part_wide : length (take (at + w - at) (drop at acc)) ≡ length entry
-    part_wide = ap length part_is ∙ part_sized ∙ sym g.asks.wide
 
     part_at : (c : ℕ) → c < w → get_or part c 0 ≡ get_or acc₀ (t * w + c) 0
     unfolding part
@@ -82,30 +79,25 @@ module _ {q grow w rows : ℕ} {entry : List ℕ} {lanes₀ : List SignedDecompo
       step_is : s ≡ step_of (lane lanes₀ t)
       step_is = es ∙ ap step_of (g.waits t (omega arith))
 
-      pub row_asks : {half : ℕ} → LevelRoom q half w rows lanes₀ entry acc₀ → Spare q half s.digit (take (at + w - at) (drop at acc)) entry
-      row_asks {half} r = rw part_is asks
-        where
-          asks : Spare q half s.digit part entry
-          asks =
-              record {
-                same = part_sized ∙ sym g.asks.wide;
-                entries = r.entries;
-                digit = rw (ap (λ x. x.digit) step_is) (r.digits t h);
-                room = λ c k.
-                    let k' : c < w = omega (arith, part_sized) in
-                    rw (part_at c k') (r.room t c h k');
-              }
+      pub row_asks : {half : ℕ} → LevelRoom q half grow w rows lanes₀ entry acc₀ → Spare q half grow s.digit (take w (drop (t * w) acc)) entry
+      unfolding part
+      row_asks r =
+          record {
+            same = part_sized ∙ sym g.asks.wide;
+            entries = r.entries;
+            digit = rw (ap (λ x. x.digit) step_is) (r.digits t h);
+            room = λ c k.
+                let k' : c < w = omega (arith, part_sized) in
+                rw (part_at c k') (r.room t c h k');
+          }
 
-      module _ {row : List ℕ} (r : Less q grow s.digit entry (take (at + w - at) (drop at acc)) row) where
+      module _ {row : List ℕ} (r : Less q grow s.digit entry (take w (drop (t * w) acc)) row) where
         new : List ℕ
         new = take (t * w) acc ++ (row ++ drop w (drop (t * w) acc))
 
-        new_is : take at acc ++ (row ++ drop (at + w - at) (drop at acc)) ≡ new
-        unfolding new
-        new_is = ap₂ (λ n k. take k acc ++ (row ++ drop n (drop k acc))) width_is g.place
-
         rowed : Less q grow (step_of (lane lanes₀ t)).digit entry part row
-        rowed = rw (part_is, ap (λ x. x.digit) step_is) at r
+        unfolding part
+        rowed = rw (ap (λ x. x.digit) step_is) at r
 
         row_sized : length row ≡ w
         row_sized = rowed.same ∙ part_sized
@@ -154,13 +146,11 @@ module _ {q grow w rows : ℕ} {entry : List ℕ} {lanes₀ : List SignedDecompo
             go (yes e) = rw e (get_or-set_same lanes t s.next _ in_lanes ∙ ap (λ x. x.next) step_is)
             go (no e) = get_or-set_other lanes t u s.next _ e ∙ g.moved u (omega arith)
 
-        pub rowing_on : Rowing q grow w rows entry lanes₀ acc₀ (set lanes t s.next) (take at acc ++ (row ++ drop (at + w - at) (drop at acc))) (at + w) (t + 1)
+        pub rowing_on : Rowing q grow w rows entry lanes₀ acc₀ (set lanes t s.next) (take (t * w) acc ++ (row ++ drop w (drop (t * w) acc))) (t + 1)
+        unfolding new
         rowing_on =
-            rw new_is
             record {
               asks = g.asks;
-              upto = omega arith;
-              place = omega (arith, g.place);
               same = new_length;
               count = length-set lanes t s.next ∙ g.count;
               less = less_new;

@@ -1,6 +1,6 @@
 -- The loop over the levels of a place.
 -- Assumes nothing.
-use mathlib.Core.Path.{◌≡◌, refl, ◌∙◌, ap, ap₂, subst}
+use mathlib.Core.Path.{◌≡◌, refl, sym, ◌∙◌, ap₂, subst}
 use mathlib.Core.List.{List}
 use Prim.Native.Nat.{ℕ, suc, ◌+◌, ◌*◌, ◌-◌, ◌<◌, ◌≤◌}
 use native.Mathlib.Omega.{arith}
@@ -20,10 +20,8 @@ use Rattle.gadget_digits.proofs.Columns.{after_none, after_next}
 use Rattle.key_switch_tile.specs.Tile.{tile, lane, Level, LevelRoom, Leveled, Place, PlaceRoom, Placed, takes}
 
 -- the levels below j are done
-pub record Sinking (q grow w rows L start : ℕ) (key : List ℕ) (lanes₀ : List SignedDecomposer) (acc₀ : List ℕ) (lanes : List SignedDecomposer) (acc : List ℕ) (at j : ℕ) : Type 0 where
+pub record Sinking (q grow w rows L start : ℕ) (key : List ℕ) (lanes₀ : List SignedDecomposer) (acc₀ : List ℕ) (lanes : List SignedDecomposer) (acc : List ℕ) (j : ℕ) : Type 0 where
   pub asks : Place w rows L start lanes₀ key acc₀
-  pub upto : j ≤ L
-  pub place : at ≡ start + j * w
   pub count : length lanes ≡ tile
   pub state : (t : ℕ) → t < rows → lane lanes t ≡ after j (lane lanes₀ t)
   pub done : Placed q grow w rows j start key lanes₀ acc₀ acc
@@ -43,12 +41,10 @@ takes_more w j start key d c x =
     law : (x y z : ℤ) → x -ℤ y -ℤ z ≡ x -ℤ (y +ℤ z)
     law = diffs₃ _ λ a b c d e f. simp diff (⊖-eq _ _ _ _ (omega arith))
 
-pub sinking_start : {w rows L start : ℕ} {lanes : List SignedDecomposer} {key acc : List ℕ} (q grow : ℕ) → Place w rows L start lanes key acc → Sinking q grow w rows L start key lanes acc lanes acc start 0
+pub sinking_start : {w rows L start : ℕ} {lanes : List SignedDecomposer} {key acc : List ℕ} (q grow : ℕ) → Place w rows L start lanes key acc → Sinking q grow w rows L start key lanes acc lanes acc 0
 sinking_start {w} {start = start} {lanes = lanes} {key = key} {acc = acc} q grow p =
     record {
       asks = p;
-      upto = omega arith;
-      place = omega arith;
       count = p.count;
       state = λ t h. after_none (lane lanes t);
       done =
@@ -59,51 +55,58 @@ sinking_start {w} {start = start} {lanes = lanes} {key = key} {acc = acc} q grow
           };
     }
 
-module _ {q grow w rows L start : ℕ} {key : List ℕ} {lanes₀ : List SignedDecomposer} {acc₀ : List ℕ} {lanes : List SignedDecomposer} {acc : List ℕ} {at j : ℕ} (g : Sinking q grow w rows L start key lanes₀ acc₀ lanes acc at j) where
-  pub sinking_end : L ≤ j → Placed q grow w rows L start key lanes₀ acc₀ acc
-  sinking_end h = subst (λ n. Placed q grow w rows n start key lanes₀ acc₀ acc) all g.done
-    where
-      all : j ≡ L
-      all = omega (arith, g.upto)
+module _ {q grow w rows L start : ℕ} {key : List ℕ} {lanes₀ : List SignedDecomposer} {acc₀ : List ℕ} {lanes : List SignedDecomposer} {acc : List ℕ} {j : ℕ} (g : Sinking q grow w rows L start key lanes₀ acc₀ lanes acc j) where
+  pub sinking_end : j ≡ L → Placed q grow w rows L start key lanes₀ acc₀ acc
+  sinking_end h = subst (λ n. Placed q grow w rows n start key lanes₀ acc₀ acc) h g.done
 
   module _ (h : j < L) where
-    pub in_key : at + w ≤ length key
-    in_key = omega (arith, g.place, g.asks.keyed, mul-le-mul_right {m = suc j} {n = L} w h)
+    pub in_key : start + j * w + w ≤ length key
+    in_key = omega (arith, g.asks.keyed, mul-le-mul_right {m = suc j} {n = L} w h)
 
     entry : List ℕ
-    entry = take (at + w - at) (drop at key)
+    entry = take (start + j * w + w - (start + j * w)) (drop (start + j * w) key)
 
-    width_is : at + w - at ≡ w
+    width_is : start + j * w + w - (start + j * w) ≡ w
     width_is = omega arith
 
     entry_sized : length entry ≡ w
     unfolding entry
-    entry_sized = length-take-le (at + w - at) (drop at key) (omega (arith, length-drop at key, in_key)) ∙ width_is
+    entry_sized = length-take-le (start + j * w + w - (start + j * w)) (drop (start + j * w) key) (omega (arith, length-drop (start + j * w) key, in_key)) ∙ width_is
 
     entry_at : (c : ℕ) → c < w → get_or entry c 0 ≡ get_or key (start + j * w + c) 0
     unfolding entry
     entry_at c k =
-        get_or-take (at + w - at) (drop at key) c 0 (omega arith) ∙ get_or-drop at key c 0 ∙ ap (λ n. get_or key (n + c) 0) g.place
+        get_or-take (start + j * w + w - (start + j * w)) (drop (start + j * w) key) c 0 (omega arith) ∙ get_or-drop (start + j * w) key c 0
 
-    pub level_asks : Level w rows lanes (take (at + w - at) (drop at key)) acc
+    -- a level is asked by the length of its entry
+    at_width : (P : ℕ → Type 0) → P w → P (length entry)
+    at_width P p = subst P (sym entry_sized) p
+
+    pub level_asks : Level (length (take (start + j * w + w - (start + j * w)) (drop (start + j * w) key))) rows lanes (take (start + j * w + w - (start + j * w)) (drop (start + j * w) key)) acc
     unfolding entry
-    level_asks = record { few = g.asks.few; count = g.count; wide = entry_sized; sized = g.done.same ∙ g.asks.sized }
+    level_asks =
+        at_width (λ k. Level k rows lanes entry acc) record { few = g.asks.few; count = g.count; wide = entry_sized; sized = g.done.same ∙ g.asks.sized }
 
-    pub level_room : {half : ℕ} → grow ≡ half * q → PlaceRoom q half w rows L lanes₀ key acc₀ → LevelRoom q half w rows lanes (take (at + w - at) (drop at key)) acc
+    pub level_room : {half : ℕ} → PlaceRoom q half grow w rows L lanes₀ key acc₀
+        → LevelRoom q half grow (length (take (start + j * w + w - (start + j * w)) (drop (start + j * w) key))) rows lanes (take (start + j * w + w - (start + j * w)) (drop (start + j * w) key)) acc
     unfolding entry
-    level_room e r =
-        record {
-          entries = λ c k.
-              let k' : c < w = omega (arith, entry_sized) in
-              rw (entry_at c k') (r.keys (start + j * w + c) (omega (arith, in_key, g.place)));
-          digits = λ t k. rw (g.state t k) (r.digits t j k h);
-          room = λ t c k l. omega (arith, g.done.most t c k l, r.room t c k l, e, mul-le-mul_right {m = suc j} {n = L} grow h, ap (λ n. L * n) e);
-        }
+    level_room {half} r = at_width (λ k. LevelRoom q half grow k rows lanes entry acc) room
+      where
+        room : LevelRoom q half grow w rows lanes entry acc
+        room =
+            record {
+              entries = λ c k.
+                  let k' : c < w = omega (arith, entry_sized) in
+                  rw (entry_at c k') (r.keys (start + j * w + c) (omega (arith, in_key)));
+              digits = λ t k. rw (g.state t k) (r.digits t j k h);
+              room = λ t c k l. omega (arith, g.done.most t c k l, r.room t c k l, mul-le-mul_right {m = suc j} {n = L} grow h);
+            }
 
-    module _ {lanes' : List SignedDecomposer} {acc' : List ℕ} (r : Leveled q grow w rows (take (at + w - at) (drop at key)) lanes acc lanes' acc') where
+    module _ {lanes' : List SignedDecomposer} {acc' : List ℕ}
+        (r : Leveled q grow (length (take (start + j * w + w - (start + j * w)) (drop (start + j * w) key))) rows (take (start + j * w + w - (start + j * w)) (drop (start + j * w) key)) lanes acc lanes' acc') where
       leveled : Leveled q grow w rows entry lanes acc lanes' acc'
       unfolding entry
-      leveled = r
+      leveled = subst (λ k. Leveled q grow k rows entry lanes acc lanes' acc') entry_sized r
 
       word_on : (t c : ℕ) → t < rows → c < w
           → Cong q (pos (get_or acc' (t * w + c) 0)) (pos (get_or acc₀ (t * w + c) 0) -ℤ takes w (j + 1) start key (lane lanes₀ t) c)
@@ -114,12 +117,10 @@ module _ {q grow w rows L start : ℕ} {key : List ℕ} {lanes₀ : List SignedD
           (ap₂ (λ d n. pos (get_or acc₀ (t * w + c) 0) -ℤ takes w j start key (lane lanes₀ t) c -ℤ pos (step_of d).digit *ℤ pos n) (g.state t k) (entry_at c l)
           ∙ takes_more w j start key (lane lanes₀ t) c (pos (get_or acc₀ (t * w + c) 0)))))
 
-      pub sinking_on : Sinking q grow w rows L start key lanes₀ acc₀ lanes' acc' (at + w) (j + 1)
+      pub sinking_on : Sinking q grow w rows L start key lanes₀ acc₀ lanes' acc' (j + 1)
       sinking_on =
           record {
             asks = g.asks;
-            upto = omega arith;
-            place = omega (arith, g.place);
             count = leveled.count;
             state = λ t k. leveled.moved t k ∙ after_next j (lane lanes₀ t) (lane lanes t) (g.state t k);
             done =

@@ -1,6 +1,6 @@
 -- The loop over the places, and the words that it leaves.
 -- Assumes nothing.
-use mathlib.Core.Path.{◌≡◌, sym, ◌∙◌, ap, ap₂, subst}
+use mathlib.Core.Path.{◌≡◌, sym, ◌∙◌, ap, subst}
 use mathlib.Core.Bool.{Bool, true, false}
 use mathlib.Core.List.{List}
 use Prim.Native.Nat.{ℕ, zero, suc, ◌+◌, ◌*◌, ◌^◌, ◌<◌, ◌≤◌}
@@ -133,30 +133,24 @@ module _ {p : PreparedBasis} {n m rows : ℕ} {input key : List ℕ} (sh : Shape
       go true l = omega arith
       go false l = omega arith
 
-  pub reached_next : (i at : ℕ) → i < n → at ≡ i * (p.level_count * (m + 1)) → (lanes : List SignedDecomposer) → Lanes p n rows i input lanes
-      → (grow : ℕ) (acc acc' : List ℕ) → Reached p n m rows i input key acc → Placed (size_of p.modulus) grow (m + 1) rows p.level_count at key lanes acc acc'
+  pub reached_next : (i : ℕ) → i < n → (lanes : List SignedDecomposer) → Lanes p n rows i input lanes
+      → (grow : ℕ) (acc acc' : List ℕ) → Reached p n m rows i input key acc → Placed (size_of p.modulus) grow (m + 1) rows p.level_count (i * (p.level_count * (m + 1))) key lanes acc acc'
       → Reached p n m rows (i + 1) input key acc'
-  reached_next i at h e lanes l grow acc acc' r d =
+  reached_next i h lanes l grow acc acc' r d =
       record {
         sized = d.same ∙ r.sized;
         word = λ t c u v.
             cong_trans (d.word t c u v)
             (cong_trans (cong_sub (r.word t c u v)
             (cong_trans
-            (cong_of_eq (size_of p.modulus) (ap₂ (λ k x. takes (m + 1) p.level_count k key x c) e (lane-is i h lanes l t u)))
+            (cong_of_eq (size_of p.modulus) (ap (λ x. takes (m + 1) p.level_count (i * (p.level_count * (m + 1))) key x c) (lane-is i h lanes l t u)))
             (takes_cong (get_or (row_of n input t) i 0) i c)))
             (cong_of_eq (size_of p.modulus) (sym (after_next (basis_in p) n m key (row_of n input t) i c))));
       }
 
-  pub reached_all : (i : ℕ) (acc : List ℕ) → i ≤ n → n ≤ i → Reached p n m rows i input key acc → Reached p n m rows n input key acc
-  reached_all i acc h k r = subst (λ j. Reached p n m rows j input key acc) all r
-    where
-      all : i ≡ n
-      all = omega arith
-
   -- the key has the entries of place i
-  pub place_in : (i at : ℕ) → i < n → at ≡ i * (p.level_count * (m + 1)) → at + p.level_count * (m + 1) ≤ length key
-  place_in i at h e = omega (arith, sh.keyed, mul-le-mul_right {m = suc i} {n = n} (p.level_count * (m + 1)) h, assoc n p.level_count (m + 1))
+  place_in : (i : ℕ) → i < n → i * (p.level_count * (m + 1)) + p.level_count * (m + 1) ≤ length key
+  place_in i h = omega (arith, sh.keyed, mul-le-mul_right {m = suc i} {n = n} (p.level_count * (m + 1)) h, assoc n p.level_count (m + 1))
     where
       assoc : (a b c : ℕ) → a * b * c ≡ a * (b * c)
       assoc a b c = omega arith
@@ -180,15 +174,9 @@ module _ {p : PreparedBasis} {n m rows : ℕ} {input key : List ℕ} (sh : Shape
         pow_mono {i = (basis_in p).bits} {j = 32} sh.ready.sound.bits-within,
       )
 
-  pub span_fits : p.level_count * (m + 1) < 2 ^ 64
-  span_fits =
-      omega (
-        arith,
-        levels-most,
-        mul-le-mul_left {m = 1} {n = 2 ^ p.log_basis} p.level_count (pow_pos p.log_basis),
-        mul-le-mul_left {m = m + 1} {n = 2049} p.level_count (omega (arith, sh.narrow)),
-      )
+  pub levels_few : p.level_count ≤ 2 ^ 32
+  levels_few = omega (arith, levels-most, mul-le-mul_left {m = 1} {n = 2 ^ p.log_basis} p.level_count (pow_pos p.log_basis))
 
-  pub place_asks : rows ≤ tile → (i at : ℕ) → i < n → at ≡ i * (p.level_count * (m + 1)) → (lanes : List SignedDecomposer) → Lanes p n rows i input lanes
-      → (acc : List ℕ) → length acc ≡ rows * (m + 1) → Place (m + 1) rows p.level_count at lanes key acc
-  place_asks few i at h e lanes l acc s = record { few = few; count = l.count; sized = s; keyed = place_in i at h e }
+  pub place_asks : rows ≤ tile → (i : ℕ) → i < n → (lanes : List SignedDecomposer) → Lanes p n rows i input lanes
+      → (acc : List ℕ) → length acc ≡ rows * (m + 1) → Place (m + 1) rows p.level_count (i * (p.level_count * (m + 1))) lanes key acc
+  place_asks few i h lanes l acc s = record { few = few; count = l.count; sized = s; keyed = place_in i h }

@@ -28,11 +28,11 @@ pub record Level (w rows : ℕ) (lanes : List SignedDecomposer) (entry acc : Lis
   pub wide : length entry ≡ w
   pub sized : length acc ≡ rows * w
 
--- and there is room for exact sums
-pub record LevelRoom (q half w rows : ℕ) (lanes : List SignedDecomposer) (entry acc : List ℕ) : Type 0 where
+-- and there is room for exact sums, where no accumulator grows by more than `grow`
+pub record LevelRoom (q half grow w rows : ℕ) (lanes : List SignedDecomposer) (entry acc : List ℕ) : Type 0 where
   pub entries : Below q entry
   pub digits : (t : ℕ) → t < rows → Near q half (step_of (lane lanes t)).digit
-  pub room : (t c : ℕ) → t < rows → c < w → get_or acc (t * w + c) 0 + half * q < 2 ^ 64
+  pub room : (t c : ℕ) → t < rows → c < w → get_or acc (t * w + c) 0 + grow < 2 ^ 64
 
 -- row t loses d times the entry modulo q, and no accumulator grows by more than `grow`
 pub record RowLess (q grow w d : ℕ) (entry acc acc' : List ℕ) (t : ℕ) : Type 0 where
@@ -56,10 +56,10 @@ pub record Place (w rows L start : ℕ) (lanes : List SignedDecomposer) (key acc
   pub sized : length acc ≡ rows * w
   pub keyed : start + L * w ≤ length key
 
-pub record PlaceRoom (q half w rows L : ℕ) (lanes : List SignedDecomposer) (key acc : List ℕ) : Type 0 where
+pub record PlaceRoom (q half grow w rows L : ℕ) (lanes : List SignedDecomposer) (key acc : List ℕ) : Type 0 where
   pub keys : Below q key
   pub digits : (t j : ℕ) → t < rows → j < L → Near q half (step_digit (lane lanes t) j)
-  pub room : (t c : ℕ) → t < rows → c < w → get_or acc (t * w + c) 0 + L * (half * q) < 2 ^ 64
+  pub room : (t c : ℕ) → t < rows → c < w → get_or acc (t * w + c) 0 + L * grow < 2 ^ 64
 
 -- what the first L levels take away from word c, by the digits of the decomposer d
 unfoldable pub takes : ℕ → ℕ → ℕ → List ℕ → SignedDecomposer → ℕ → ℤ

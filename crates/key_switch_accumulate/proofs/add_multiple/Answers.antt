@@ -1,21 +1,19 @@
 use Prim.Native.Nat.{◌+◌, ◌*◌}
 use native.Mathlib.Omega.{arith}
-use Rattle.scheme.proofs.InPlace.{filled_start, filled_end, zipped_next, length_zip}
-use Rattle.key_switch_accumulate.proofs.Rows.{at_acc, room_times}
+use Rattle.scheme.proofs.InPlace.{zipped_next}
+use Rattle.key_switch_accumulate.specs.Rows.{addend_of}
+use Rattle.key_switch_accumulate.proofs.Rows.{word_at, room_at, addend-most}
 use Rattle.key_switch_accumulate.proofs.add_multiple.Goals as goal
 
-pub loop-k-init : goal.loop-k-init
-loop-k-init c = filled_start _ _ (length_zip _ _ _ c.requires.same)
+pub addend-y-requires : goal.addend-y-requires
+addend-y-requires c = word_at _ _ _ _ _ c.requires _ _ c.loop-k.invariant (omega arith)
 
 pub more-requires : goal.more-requires
 more-requires c =
-    room_times c.args.q c.args.a _ c.args.acc.now c.args.entry.now c.requires c.loop-k.acc c.loop-k.k c.loop-k.invariant c.loop-k-test.true
+    let word = word_at _ _ _ _ _ c.requires _ _ c.loop-k.invariant (omega arith) in
+    rw c.addend-y.ensures (room_at _ _ _ _ _ c.requires _ _ c.loop-k.invariant (omega arith) _ (addend-most c.args.opposite _ _ word))
 
 pub loop-k-preserved : goal.loop-k-preserved
 loop-k-preserved c =
-    zipped_next (λ x y. x + c.args.a * y) c.args.acc.now c.args.entry.now c.loop-k.acc c.loop-k.k c.requires.same c.loop-k.invariant _
-    (at_acc c.args.q c.args.a _ c.args.acc.now c.args.entry.now c.requires c.loop-k.acc c.loop-k.k c.loop-k.invariant c.loop-k-test.true)
-    c.more.ensures
-
-pub returns : goal.returns
-returns c = filled_end _ _ _ _ c.loop-k.invariant (omega (arith, c.requires.same))
+    zipped_next (λ x y. x + c.args.a * addend_of c.args.opposite c.args.q y) _ _ _ _ c.requires.same c.loop-k.invariant _ (omega arith)
+    (rw c.addend-y.ensures at c.more.ensures)

@@ -1,15 +1,9 @@
 use Prim.Native.Nat.{◌%◌}
 use native.Mathlib.Omega.{arith}
-use lib.ListN.{length-map}
-use Rattle.scheme.proofs.InPlace.{filled_start, filled_end, mapped_next_in_place}
+use mathlib.Core.Path.{◌∙◌}
+use Rattle.scheme.proofs.InPlace.{mapped_next_in_place}
 use Rattle.key_switch_accumulate.proofs.reduce_all.Goals as goal
 
-pub loop-k-init : goal.loop-k-init
-loop-k-init c = filled_start _ _ (length-map c.args.acc.now (λ x. x % c.args.q))
-
-pub loop-k-preserved : goal.loop-k-preserved
-loop-k-preserved c =
-    mapped_next_in_place (λ x. x % c.args.q) c.args.acc.now c.loop-k.acc c.loop-k.k c.loop-k.invariant _ (omega arith) c.reduce.ensures
-
-pub returns : goal.returns
-returns c = filled_end _ _ _ _ c.loop-k.invariant (omega arith)
+pub loop-x-preserved : goal.loop-x-preserved
+loop-x-preserved c =
+    mapped_next_in_place (λ x. x % c.args.q) _ _ _ c.loop-x.invariant _ (omega arith) (c.from.ensures ∙ c.reduce.ensures)

@@ -1,8 +1,6 @@
 use Rattle.key_switch_tile.proofs.Lanes.{starting_start, starting_on}
 use Rattle.key_switch_tile.proofs.start.Goals as goal
 
--- no goal for part-start-row-end : tie.Need-slice-bounds-start-row-end invariant-loop decreases-loop
-
 pub loop-t-init : goal.loop-t-init
 loop-t-init c = starting_start _ _ _ _ _ c.requires.2
 

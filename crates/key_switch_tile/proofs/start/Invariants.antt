@@ -1,9 +1,5 @@
-use Prim.Native.Nat.{◌-◌}
 use Rattle.key_switch_tile.proofs.Lanes.{Starting}
 use Rattle.key_switch_tile.proofs.start.Given as goal
 
 abbrev pub invariant-loop-t : goal.invariant-loop-t
-invariant-loop-t l = Starting l.n l.m l.rows l.input l.initial.out l.out l.t
-
-abbrev pub decreases-loop-t : goal.decreases-loop-t
-decreases-loop-t l = l.rows - l.t
+invariant-loop-t l = Starting l.s.n l.s.m l.rows l.input l.initial.out l.out l.t
