@@ -1,4 +1,4 @@
-// What refuses a call on a batch: the first number of the table of checks that applies, or 0. For the calls of primus_lwe_batch,
+// What refuses a call on a batch: the first reason of the table of checks that applies. For the calls of primus_lwe_batch,
 // which act after it.
 #![tactic(auto)]
 

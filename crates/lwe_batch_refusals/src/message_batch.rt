@@ -2,11 +2,12 @@
 ghost use Rattle.std.specs.Prelude.{◌≡◌, ◌++◌};
 ghost use Rattle.scheme.specs.Lwe.{Words};
 ghost use Rattle.scheme.specs.Checks.{refusal};
+ghost use Rattle.check_order.specs.Answer.{code_of};
 ghost use Rattle.lwe_parameters.specs.Answers.{judged_rows};
 ghost use Rattle.lwe_batch_refusals.specs.Rows.{encrypt_batch_rows, batch_rows};
 
 use crate::sizes;
-use check_order::Values;
+use check_order::{Refusal, Values};
 use lwe_parameters::{LweParameters, LwePhaseParameters};
 
 // What refuses encryptions of messages.
@@ -17,54 +18,41 @@ pub fn encrypt_refusal(
     errors: &[i32],
     messages: &[u32],
     room: usize,
-) -> u32
-    ensures { result ≡ refusal (encrypt_batch_rows params (Words secret.now) masks.now
+) -> Result<(), Refusal>
+    ensures { code_of result ≡ refusal (encrypt_batch_rows params (Words secret.now) masks.now
         errors.now messages.now room) }
 {
-    let modulus = params.modulus;
-    let dimension = params.dimension;
     let count = messages.len();
     let mut s = params.sizes();
-    s.key = dimension.differs(secret.len());
-    s.output = sizes::output_differs(room, count, dimension);
-    s.lent = sizes::lent_differs(masks.len(), errors.len(), count, dimension);
-    let r = s.first();
-    if r != 0 {
-        return r;
-    }
+    s.key = params.dimension.differs(secret.len());
+    s.output = sizes::output_differs(room, count, params.dimension);
+    s.lent = sizes::lent_differs(masks.len(), errors.len(), count, params.dimension);
+    s.judge()?;
     let mut v = Values::NONE;
-    v.word = checks::both_refused(modulus, secret, masks);
+    v.word = checks::both_refused(params.modulus, secret, masks);
     v.error = checks::errors_refused(params.error_limit, errors);
     v.message = checks::messages_refused(params.plaintext_modulus, messages);
-    v.first()
+    v.judge()
 }
 
-// What refuses phases or messages of a batch; a call without t gives false for 7 and 8.
+// What refuses phases of a batch, or its decryption by a plaintext modulus.
 pub fn decrypt_refusal(
     params: LwePhaseParameters,
-    plaintext: bool,
-    small: bool,
+    plaintext_modulus: Option<u32>,
     secret: &[u32],
     input: &[u32],
     room: usize,
-) -> u32
-    ensures { result ≡ refusal (judged_rows plaintext small params
+) -> Result<(), Refusal>
+    ensures { code_of result ≡ refusal (judged_rows plaintext_modulus params
         ++ batch_rows params.modulus params.dimension.0 (Words secret.now) input.now
         room) }
 {
-    let modulus = params.modulus;
-    let dimension = params.dimension;
-    let mut s = params.sizes();
-    s.plaintext = plaintext;
-    s.small = small;
-    s.key = dimension.differs(secret.len());
-    s.input = sizes::input_differs(input.len(), dimension);
-    s.output = sizes::count_differs(room, input.len(), dimension);
-    let r = s.first();
-    if r != 0 {
-        return r;
-    }
+    let mut s = params.sizes_with(plaintext_modulus);
+    s.key = params.dimension.differs(secret.len());
+    s.input = sizes::input_differs(input.len(), params.dimension);
+    s.output = sizes::count_differs(room, input.len(), params.dimension);
+    s.judge()?;
     let mut v = Values::NONE;
-    v.word = checks::both_refused(modulus, secret, input);
-    v.first()
+    v.word = checks::both_refused(params.modulus, secret, input);
+    v.judge()
 }

@@ -1,4 +1,4 @@
-// What refuses a call on one ciphertext: the first number of the table of checks that applies, or 0. For the calls of primus_lwe,
+// What refuses a call on one ciphertext: the first reason of the table of checks that applies. For the calls of primus_lwe,
 // which act after it.
 #![tactic(auto)]
 

@@ -1,17 +1,18 @@
 -- What the sample of one body is judged by, and what it promises.
-use Rattle.std.specs.Prelude.{Bool, List, [], ◌∷◌, ℕ, ◌+◌, ◌-◌, leb, length}
+use Rattle.std.specs.Prelude.{Bool, List, [], ◌∷◌, ℕ, ◌+◌, ◌-◌, nat_le, length, Result}
 use Rattle.scheme.specs.Tally.{Sample}
 use Rattle.scheme.specs.Lwe.{extracted}
 use Rattle.scheme.specs.Checks.{Check, row, modulus_fails, dimension_fails, length_fails, packed_fails, words_fail}
 use Rattle.primus_reduce.specs.Ring.{meant, size_of}
 use Rattle.primus_reduce.specs.declared.modulus.Modulus.{Modulus}
-use Rattle.lwe_tag.specs.declared.LweAnswer.{LweAnswer}
+use Rattle.check_order.specs.declared.refusal.Refusal.{Refusal}
+use Rattle.lwe_tag.specs.declared.LweTag.{LweTag}
 use Rattle.lwe_tag.specs.Answers.{tag_from, WritesTagged}
 use Rattle.primus_lattice.specs.declared.dimension.LweDimension.{LweDimension}
 
 -- 10: a packed input of `len` words, n of them mask words, has no body i
 abbrev pub body_fails : ℕ → ℕ → ℕ → Bool
-body_fails len n i = leb (len - n) i
+body_fails len n i = nat_le (len - n) i
 
 -- a sample of body i of the packed ciphertext x, into `room` words, judges 2, 6, 10, 11 and 14
 abbrev pub extract_rows : Modulus → ℕ → List ℕ → ℕ → ℕ → List Check
@@ -25,7 +26,7 @@ extract_rows m n x i room =
     ∷ []
 
 -- the sample of body i, as a ciphertext of one message
-pub record Extracts (m : Modulus) (n : LweDimension) (x : List ℕ) (i : ℕ) (before : List ℕ) (answer : LweAnswer)
+pub record Extracts (m : Modulus) (n : LweDimension) (x : List ℕ) (i : ℕ) (before : List ℕ) (answer : Result LweTag Refusal)
     (after : List ℕ) : Type 0 where
   pub writes :
       WritesTagged (extract_rows m n.0 x i (length before)) (tag_from Sample) (extracted (size_of m) n.0 x i)

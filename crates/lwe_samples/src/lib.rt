@@ -6,10 +6,11 @@ ghost use Rattle.std.specs.Prelude.{◌≡◌, ◌||◌, ◌+◌, ◌-◌, ◌<�
 ghost use Rattle.scheme.specs.Lwe.{extracted};
 ghost use Rattle.scheme.specs.Checks.{packed_fails, refusal};
 ghost use Rattle.primus_reduce.specs.Ring.{size_of};
+ghost use Rattle.check_order.specs.Answer.{code_of};
 ghost use Rattle.lwe_samples.specs.Answers.{body_fails, extract_rows, Extracts};
 
-use check_order::{Sizes, Values};
-use lwe_tag::{LweAnswer, LweTag};
+use check_order::{Refusal, Sizes, Values};
+use lwe_tag::LweTag;
 use primus_lattice::LweDimension;
 use primus_reduce::Modulus;
 
@@ -41,24 +42,22 @@ fn extract_refusal(
     input: &[u32],
     index: usize,
     room: usize,
-) -> u32
-    ensures { result ≡ refusal (extract_rows modulus dimension.0 input.now index room) }
+) -> Result<(), Refusal>
+    ensures { code_of result ≡ refusal (extract_rows modulus dimension.0 input.now index room) }
 {
     let mut s = Sizes::NONE;
     s.modulus = checks::modulus_refused(modulus);
     s.dimension = dimension.refused();
     s.input = sample_refused(dimension, input.len(), index);
     s.output = dimension.ciphertext_differs(room);
-    let r = s.first();
-    if r != 0 {
-        return r;
-    }
+    s.judge()?;
     let mut v = Values::NONE;
     v.word = checks::words_refused(modulus, input);
-    v.first()
+    v.judge()
 }
 
 // Word k of the sample of body i: minus word n − i + k for k below i, word k − i for k below n, and then word n + i.
+#[tactic(auto, using(crate::proofs::Laws::sample_words))]
 fn extracted_word(input: &[u32], n: usize, index: usize, k: usize, modulus: Modulus) -> u32
     requires { (index < n) × (n + index < length input.now) × (k ≤ n) × (0 < size_of modulus) }
     ensures { result ≡ get_or (extracted (size_of modulus) n input.now index) k 0 }
@@ -73,14 +72,13 @@ fn extracted_word(input: &[u32], n: usize, index: usize, k: usize, modulus: Modu
     input[n + index]
 }
 
+#[tactic(auto, using(crate::proofs::Laws::sampling))]
 fn write_extracted(out: &mut [u32], input: &[u32], n: usize, index: usize, modulus: Modulus)
     requires { (index < n) × (n + index < length input.now) × (length out.old ≡ n + 1) × (0 < size_of modulus) }
     ensures { out.new ≡ extracted (size_of modulus) n input.now index }
 {
-    let mut k = 0;
-    while k < out.len() {
-        out[k] = extracted_word(input, n, index, k, modulus);
-        k += 1;
+    for (k, word) in out.iter_mut().enumerate() {
+        *word = extracted_word(input, n, index, k, modulus);
     }
 }
 
@@ -91,13 +89,10 @@ pub fn extract_lwe_at(
     input: &[u32],
     index: usize,
     out: &mut [u32],
-) -> LweAnswer
+) -> Result<LweTag, Refusal>
     ensures { Extracts modulus dimension input.now index out.old result out.new }
 {
-    let r = extract_refusal(modulus, dimension, input, index, out.len());
-    if r != 0 {
-        return LweAnswer::Refused(r);
-    }
+    extract_refusal(modulus, dimension, input, index, out.len())?;
     write_extracted(out, input, dimension.get(), index, modulus);
-    LweAnswer::Written(LweTag::none())
+    Ok(LweTag::none())
 }

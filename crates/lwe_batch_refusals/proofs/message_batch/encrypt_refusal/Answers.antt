@@ -1,19 +1,17 @@
-use mathlib.Core.List.{List}
-use borrow.Author.Rules.{rules}
-use Rattle.scheme.specs.Checks.{Check}
+use Rattle.std.proofs.Common.{rules, arith, ◌≡◌, List}
+use Rattle.std.proofs.lemmas.Grind.{common_steps}
+use Rattle.scheme.specs.Checks.{Check, refusal}
 use Rattle.scheme.specs.Lwe.{Words}
-use Rattle.scheme.proofs.Order.{Sized, early, late}
+use Rattle.check_order.specs.Answer.{number_of}
+use Rattle.check_order.proofs.Answers.{first_size, first_value}
 use Rattle.lwe_batch_refusals.specs.Rows.{encrypt_batch_rows}
 use Rattle.lwe_batch_refusals.proofs.message_batch.encrypt_refusal.Goals as goal
 
-pub returns-then-r-ne0 : goal.returns-then-r-ne0
-returns-then-r-ne0 c =
+pub returns-in_err-judge : goal.returns-in_err-judge
+returns-in_err-judge c =
     let rows : List Check = encrypt_batch_rows c.args.params (Words c.args.secret.now) c.args.masks.now c.args.errors.now c.args.messages.now c.args.room in
-    let sized : Sized rows c.first-r.result = c.first-r.ensures rows (record { basis = search rules; parameters = search rules; lengths = search rules }) in
-    early _ sized c.if-r-ne0.true
+    let told : number_of c.in_err-judge.field-0.0 ≡ refusal rows = first_size _ _ _ c.in_err-judge.ensures (search rules) in grind (arith, common_steps)
 
 pub returns : goal.returns
 returns c =
-    let rows : List Check = encrypt_batch_rows c.args.params (Words c.args.secret.now) c.args.masks.now c.args.errors.now c.args.messages.now c.args.room in
-    let sized : Sized rows c.first-r.result = c.first-r.ensures rows (record { basis = search rules; parameters = search rules; lengths = search rules }) in
-    late _ sized c.if-r-ne0.false (c.first.ensures rows (search rules))
+    let rows : List Check = encrypt_batch_rows c.args.params (Words c.args.secret.now) c.args.masks.now c.args.errors.now c.args.messages.now c.args.room in first_value rows _ _ _ c.in_ok-judge.ensures (search rules) c.judge-2.ensures (search rules)
