@@ -3,6 +3,7 @@
 #![tactic(auto)]
 
 mod buyers;
+mod pool;
 mod reasons;
 mod station;
 
@@ -13,11 +14,8 @@ pub(crate) const PLAINTEXT_MODULUS: u32 = 1024;
 pub(crate) const PLACES: usize = 4;
 
 fn main(rt: HostRuntime) {
-    let mut sent = [0u32; 8196];
-    let s = station::run(&rt, &mut sent);
-    let modulus = s.modulus;
-    if s.words == 0 {
-        return;
+    let mut room = [0u32; 8196];
+    if let Some(sent) = station::run(&rt, &mut room) {
+        buyers::open(&rt, sent);
     }
-    buyers::open(&rt, &sent, s.words, modulus);
 }

@@ -1,90 +1,59 @@
-// The refusal numbers in words.
+// The refusals in words.
+use check_order::Refusal;
 use saved_files::Stored;
 
-fn parameters(rt: &impl Print, number: u32) {
-    match number {
-        1 => programs::write(rt, b"the base log is below 2 or above 31"),
-        2 => programs::write(rt, b"the modulus is below 4"),
-        3 => programs::write(rt, b"the modulus is below the base"),
-        4 => programs::write(rt, b"retired"),
-        5 => programs::write(rt, b"the level count is 0 or more than fit"),
-        6 => programs::write(rt, b"a dimension is 0 or above 2048"),
-        7 => programs::write(rt, b"the plaintext modulus is below 2 or above 65536"),
-        8 => programs::write(rt, b"the modulus is at most the plaintext modulus"),
-        9 => programs::write(rt, b"a key has the wrong length"),
-        _ => programs::write(rt, b"ciphertexts have the wrong length or dimension"),
-    }
-}
-
-fn operands(rt: &impl Print, number: u32) {
-    match number {
-        11 => programs::write(rt, b"an output has the wrong length"),
-        12 => programs::write(
-            rt,
-            b"masks, errors, coefficients or tallies have the wrong length",
-        ),
-        13 => programs::write(
-            rt,
-            b"the error limit is above 1048576 or not below the modulus",
-        ),
-        14 => programs::write(rt, b"a word is not below the modulus"),
-        15 => programs::write(
-            rt,
-            b"an error is outside its limit, or a coefficient is none of -1, 0, 1",
-        ),
-        16 => programs::write(rt, b"a message is not below the plaintext modulus"),
-        17 => programs::write(rt, b"a tally, given or summed, is above 2^32"),
-        18 => programs::write(rt, b"a word comes before any accepted basis"),
-        _ => programs::write(rt, b"an unknown command, or no whole file of its kind"),
+fn words_of(reason: Refusal) -> &'static str {
+    match reason {
+        Refusal::BaseLog => "the base log is below 2 or above 31",
+        Refusal::Modulus => "the modulus is below 4",
+        Refusal::Base => "the modulus is below the base",
+        Refusal::Levels => "the level count is 0 or more than fit",
+        Refusal::Dimension => "a dimension is 0 or above 2048",
+        Refusal::PlaintextModulus => "the plaintext modulus is below 2 or above 65536",
+        Refusal::SmallModulus => "the modulus is at most the plaintext modulus",
+        Refusal::KeyLength => "a key has the wrong length",
+        Refusal::InputLength => "ciphertexts have the wrong length or dimension",
+        Refusal::OutputLength => "an output has the wrong length",
+        Refusal::LentLength => "masks, errors, coefficients or tallies have the wrong length",
+        Refusal::ErrorLimit => "the error limit is above 1048576 or not below the modulus",
+        Refusal::Word => "a word is not below the modulus",
+        Refusal::Error => "an error is outside its limit, or a coefficient is none of -1, 0, 1",
+        Refusal::Message => "a message is not below the plaintext modulus",
+        Refusal::Tally => "a tally, given or summed, is above 2^32",
+        Refusal::NoBasis => "a word comes before any accepted basis",
+        Refusal::Unreadable => "an unknown command, or no whole file of its kind",
     }
 }
 
 // The number, and in words what it stands for.
-pub(crate) fn refused(rt: &impl Print, number: u32) {
-    programs::print(rt, b"refused ", number as u64);
-    programs::write(rt, b": ");
-    if number < 11 {
-        parameters(rt, number);
-    } else {
-        operands(rt, number);
-    }
-    programs::write(rt, b"\n");
+pub(crate) fn refused(rt: &impl Print, reason: Refusal) {
+    let _ = println!(rt; "refused {}: {}", reason.number(), words_of(reason));
 }
 
 // A name, and what became of it.
-pub(crate) fn told(rt: &impl Print, name: &[u8], number: u32) {
-    programs::write(rt, name);
-    programs::write(rt, b": ");
-    if number == 0 {
-        programs::write(rt, b"accepted\n");
-        return;
+pub(crate) fn told(rt: &impl Print, name: &str, answer: Result<(), Refusal>) {
+    let _ = print!(rt; "{name}: ");
+    match answer {
+        Ok(()) => {
+            let _ = println!(rt; "accepted");
+        }
+        Err(reason) => refused(rt, reason),
     }
-    refused(rt, number);
 }
 
-fn unknown(rt: &impl Print, stored: Stored) {
+fn unknown(stored: Stored) -> &'static str {
     match stored {
-        Stored::Missing => programs::write(rt, b"there is no such file, or it cannot be opened\n"),
-        Stored::Broken => {
-            programs::write(
-                rt,
-                b"not a whole file of this layout: cut off, too long or another one\n",
-            )
-        }
-        Stored::Whole => programs::write(
-            rt,
-            b"a file of another kind, modulus or plaintext modulus\n",
-        ),
+        Stored::Missing => "there is no such file, or it cannot be opened",
+        Stored::Broken => "not a whole file of this layout: cut off, too long or another one",
+        Stored::Whole => "a file of another kind, modulus or plaintext modulus",
     }
 }
 
 // What became of a file: for 19, in words, what stands under its name.
-pub(crate) fn told_file(rt: &impl Print, name: &[u8], number: u32, stored: Stored) {
-    if number != 19 {
-        told(rt, name, number);
+pub(crate) fn told_file(rt: &impl Print, name: &str, answer: Result<(), Refusal>, stored: Stored) {
+    if answer == Err(Refusal::Unreadable) {
+        let _ = println!(rt; "{name}: refused 19: {}", unknown(stored));
         return;
     }
-    programs::write(rt, name);
-    programs::write(rt, b": refused 19: ");
-    unknown(rt, stored);
+    told(rt, name, answer);
 }

@@ -1,155 +1,77 @@
 // The box: it adds the shops' rows and switches the total. It holds the switching key and what came in, and no secret.
+use crate::pool::Pool;
 use crate::{PLACES, PLAINTEXT_MODULUS, reasons};
+use check_order::Refusal;
 use key_switch::key_switch_batch_to;
-use key_switch_parameters::{LweKeySwitchingParameters, LweKeySwitchingParametersAnswer};
-use pooling::{PoolParameters, add_saved, begin_saved};
+use key_switch_parameters::LweKeySwitchingParameters;
+use pooling::PoolParameters;
 use primus_decompose::ApproxSignedBasis;
-use primus_lattice::{LweAnswer, LweDimension, LweTag, MarkAnswer, Tally};
+use primus_lattice::LweDimension;
 use primus_reduce::Modulus;
 use saved_files::{ROOM, Stored};
-use saved_head::Head;
+use saved_head::{Head, Kind};
 use std::rt::Files;
 
-fn digit(number: u32) -> u8 {
-    (48 + number % 10) as u8
+const SHOPS: [&str; 9] = [
+    "shop_1", "shop_2", "shop_3", "shop_4", "shop_5", "shop_6", "shop_7", "shop_8", "shop_9",
+];
+
+// What the box sends on, modulo q.
+#[derive(Clone, Copy)]
+pub(crate) struct Sent<'a> {
+    pub(crate) words: &'a [u32],
+    pub(crate) modulus: Modulus,
 }
 
-// The first row that is accepted is the total, and the others are added to it.
-fn add_row(
-    params: PoolParameters,
-    rows: u32,
-    bytes: &[u8],
-    total: &mut [u32],
-    tallies: &mut [u64],
-) -> u32 {
-    if rows == 0 {
-        return begin_saved(params, bytes, total, tallies);
-    }
-    add_saved(params, bytes, total, tallies)
-}
-
-// A shop's row goes into the total of `rows` rows whole, or not at all: how many there are then.
-fn add_shop(
-    rt: &(impl Files + Print + Eprint),
-    params: PoolParameters,
-    rows: u32,
-    name: &[u8],
-    bytes: &mut [u8],
-    total: &mut [u32],
-    tallies: &mut [u64],
-) -> u32 {
-    let f = programs::read_file(rt, name, bytes);
-    let len = f.len;
-    let r = add_row(params, rows, &bytes[0..len], total, tallies);
-    reasons::told_file(
-        rt,
-        name,
-        r,
-        saved_files::stored_as(f.opened, &bytes[0..len]),
-    );
-    if r == 0 {
-        return std::num::wrapping_add_u32(rows, 1);
-    }
-    rows
-}
-
-// How many of the shops' rows were added.
-fn add_shops(
-    rt: &(impl Files + Print + Eprint),
-    params: PoolParameters,
-    bytes: &mut [u8],
-    total: &mut [u32],
-    tallies: &mut [u64],
-) -> u32 {
-    let mut rows = 0;
-    for number in 1..10 {
-        let name = [b's', b'h', b'o', b'p', b'_', digit(number)];
-        rows = add_shop(rt, params, rows, &name, bytes, total, tallies);
-    }
-    rows
-}
-
-// Document 01's mark of one place. It counts one rounding, however many rows were added.
-fn print_mark(rt: &impl Print, place: u64, number: u64, modulus: Modulus) {
-    let tag = LweTag::with_tally(number);
-    programs::print(rt, b"  casting ", place);
-    match tag.tally() {
-        Tally::Absent => programs::write(rt, b": no tally"),
-        Tally::Present(a) => programs::print(rt, b": tally ", a),
-    }
-    match tag.is_good(modulus, PLAINTEXT_MODULUS) {
-        MarkAnswer::Mark(good) => print_good(rt, good),
-        MarkAnswer::Refused(r) => reasons::refused(rt, r),
-    }
-}
-
-fn print_good(rt: &impl Print, good: bool) {
-    if good {
-        programs::write(rt, b", marked good\n");
-        return;
-    }
-    programs::write(rt, b", not marked good\n");
-}
-
-fn print_marks(rt: &impl Print, tallies: [u64; 4], modulus: Modulus) {
-    print_mark(rt, 1, tallies[0], modulus);
-    print_mark(rt, 2, tallies[1], modulus);
-    print_mark(rt, 3, tallies[2], modulus);
-    print_mark(rt, 4, tallies[3], modulus);
-}
-
-// Adds the rows and prints the marks; how many rows were added.
-fn collect(
-    rt: &(impl Files + Print + Eprint),
-    pool: PoolParameters,
-    modulus: Modulus,
-    total: &mut [u32],
-) -> u32 {
+// Adds the rows and prints the marks.
+fn collect(rt: &(impl Files + Print + Eprint), pool: &mut Pool) {
     let mut bytes = [0u8; ROOM];
-    let mut tallies = [0u64; 4];
-    programs::write(
-        rt,
-        b"the box adds the shops' rows of four encrypted counts:\n",
-    );
-    let rows = add_shops(rt, pool, &mut bytes, total, &mut tallies);
-    programs::say(rt, b"rows added: ", rows as u64);
-    if rows != 0 {
-        programs::write(rt, b"the total before the switch:\n");
-        print_marks(rt, tallies, modulus);
+    let _ = println!(rt; "the box adds the shops' rows of four encrypted counts:");
+    for name in &SHOPS {
+        let file = programs::read_file(rt, name, &mut bytes);
+        let answer = pool.add(file.unwrap_or(&[]));
+        reasons::told_file(rt, name, answer, saved_files::stored_as(file));
     }
-    rows
+    let _ = println!(rt; "rows added: {}", pool.rows);
+    if pool.rows != 0 {
+        let _ = println!(rt; "the total before the switch:");
+        pool.print_marks(rt);
+    }
 }
 
-// Adds, and switches the total into `sent`: the number of words sent on, 0 where there is nothing to send.
-fn serve(
+// Adds, and switches the total into `room`; none where there is nothing to send.
+fn serve<'a>(
     rt: &(impl Files + Print + Eprint),
     params: LweKeySwitchingParameters,
     modulus: Modulus,
     key: &[u32],
     total: &mut [u32],
-    sent: &mut [u32],
-) -> usize {
-    let dimension = params.input_dimension;
-    let pool = PoolParameters {
-        modulus,
-        dimension,
-        plaintext_modulus: PLAINTEXT_MODULUS,
+    room: &'a mut [u32],
+) -> Option<Sent<'a>> {
+    let mut pool = Pool {
+        params: PoolParameters {
+            modulus,
+            dimension: params.input_dimension,
+            plaintext_modulus: PLAINTEXT_MODULUS,
+        },
+        total,
+        tallies: [0; PLACES],
+        rows: 0,
     };
-    if collect(rt, pool, modulus, total) == 0 {
-        programs::write(rt, b"no row was accepted, so there is nothing to send\n");
-        return 0;
+    collect(rt, &mut pool);
+    if pool.rows == 0 {
+        let _ = println!(rt; "no row was accepted, so there is nothing to send");
+        return None;
     }
-    programs::write(
-        rt,
-        b"the box switches the total to the group's key and sends it on\n",
-    );
-    match key_switch_batch_to(params, key, total, sent) {
-        LweAnswer::Written(_) => sent.len(),
-        LweAnswer::Refused(r) => {
-            reasons::told(rt, b"the switch", r);
-            0
-        }
+    let _ = println!(rt; "the box switches the total to the group's key and sends it on");
+    if let Err(reason) = key_switch_batch_to(params, key, pool.total, room) {
+        reasons::told(rt, "the switch", Err(reason));
+        return None;
     }
+    Some(Sent {
+        words: room,
+        modulus,
+    })
 }
 
 // The words of four ciphertexts. A dimension above 2,048 is refused before.
@@ -160,75 +82,51 @@ fn width_of(dimension: usize) -> usize {
     PLACES * (dimension + 1)
 }
 
-// A total of four ciphertexts of n + 1 words is switched to four of m + 1. No whole file is larger than the rooms.
-fn with_key(
-    rt: &(impl Files + Print + Eprint),
-    h: Head,
-    params: LweKeySwitchingParameters,
-    key: &[u32],
-    total: &mut [u32],
-    sent: &mut [u32],
-) -> usize {
-    let modulus = h.modulus;
-    let words = programs::at_most(h.words as usize, key.len());
-    let width = programs::at_most(width_of(h.n), total.len());
-    let room = programs::at_most(width_of(h.m), sent.len());
-    serve(
-        rt,
-        params,
-        modulus,
-        &key[0..words],
-        &mut total[0..width],
-        &mut sent[0..room],
-    )
-}
-
-fn parameters(h: Head) -> LweKeySwitchingParametersAnswer {
-    let modulus = h.modulus;
-    if h.kind != 3 {
-        return LweKeySwitchingParametersAnswer::Refused(19);
+fn parameters(h: Head) -> Result<LweKeySwitchingParameters, Refusal> {
+    if h.kind != Kind::SwitchingKey {
+        return Err(Refusal::Unreadable);
     }
     LweKeySwitchingParameters::try_new(
-        ApproxSignedBasis::given(modulus, h.base_log, h.levels),
+        ApproxSignedBasis::given(h.modulus, h.base_log, h.levels),
         LweDimension::given(h.n),
         LweDimension::given(h.m),
     )
 }
 
-// What the box sends on: so many words, modulo q.
-#[derive(Clone, Copy)]
-pub(crate) struct Sent {
-    pub(crate) words: usize,
-    pub(crate) modulus: Modulus,
-}
-
-// Serves with a whole file of a switching key: the number of words sent on.
-fn with_file(rt: &(impl Files + Print + Eprint), h: Head, key: &[u32], sent: &mut [u32]) -> usize {
+// Serves with a whole file of a switching key. A total of four ciphertexts of n + 1 words is switched to four of m + 1. No whole
+// file is larger than the rooms.
+fn with_file<'a>(
+    rt: &(impl Files + Print + Eprint),
+    h: Head,
+    key: &[u32],
+    room: &'a mut [u32],
+) -> Option<Sent<'a>> {
     let mut total = [0u32; 8196];
+    let width = width_of(h.n).min(total.len());
+    let end = width_of(h.m).min(room.len());
     match parameters(h) {
-        LweKeySwitchingParametersAnswer::Accepted(params) => with_key(
-            rt, h, params, key, &mut total, sent,
+        Ok(params) => serve(
+            rt,
+            params,
+            h.modulus,
+            key,
+            &mut total[..width],
+            &mut room[..end],
         ),
-        LweKeySwitchingParametersAnswer::Refused(r) => {
-            reasons::told_file(rt, b"switching_key", r, Stored::Whole);
-            0
+        Err(reason) => {
+            reasons::told_file(rt, "switching_key", Err(reason), Stored::Whole);
+            None
         }
     }
 }
 
-// The switched total goes into `sent`.
-pub(crate) fn run(rt: &(impl Files + Print + Eprint), sent: &mut [u32]) -> Sent {
+// The switched total goes into `room`.
+pub(crate) fn run<'a>(rt: &(impl Files + Print + Eprint), room: &'a mut [u32]) -> Option<Sent<'a>> {
     let mut key = [0u32; 16368];
-    let l = saved_files::load(rt, b"switching_key", &mut key);
-    let h = l.head;
-    let modulus = h.modulus;
-    let stored = l.stored;
-    if l.refusal != 0 {
-        reasons::told_file(rt, b"switching_key", l.refusal, stored);
-        return Sent { words: 0, modulus };
+    let l = saved_files::load(rt, "switching_key", &mut key);
+    if l.refusal.is_err() {
+        reasons::told_file(rt, "switching_key", l.refusal, l.stored);
+        return None;
     }
-    Sent {
-        words: with_file(rt, h, &key, sent),
-        modulus,
-    }
+    with_file(rt, l.head, l.words, room)
 }

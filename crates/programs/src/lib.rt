@@ -25,10 +25,7 @@ pub fn say(rt: &impl Print, label: &[u8], number: u64) {
 }
 
 // A file to read; where it cannot be opened, standard error says why.
-pub fn open<R: Files + Eprint>(rt: &R, path: &[u8]) -> Option<R::File> {
-    let Ok(name) = str::from_utf8(path) else {
-        return None;
-    };
+pub fn open_named<R: Files + Eprint>(rt: &R, name: &str) -> Option<R::File> {
     match fs::open(rt, name) {
         Ok(file) => Some(file),
         Err(e) => {
@@ -36,6 +33,14 @@ pub fn open<R: Files + Eprint>(rt: &R, path: &[u8]) -> Option<R::File> {
             None
         }
     }
+}
+
+// The same of a name in bytes.
+pub fn open<R: Files + Eprint>(rt: &R, path: &[u8]) -> Option<R::File> {
+    let Ok(name) = str::from_utf8(path) else {
+        return None;
+    };
+    open_named(rt, name)
 }
 
 // One read; one that fails gives no byte.
@@ -63,12 +68,12 @@ pub fn read_full(input: &mut impl Read, bytes: &mut [u8]) -> usize
 // The first bytes of a file, as many as there is room for; none where it cannot be opened.
 pub fn read_file<'a>(
     rt: &(impl Files + Eprint),
-    path: &[u8],
+    name: &str,
     room: &'a mut [u8],
 ) -> Option<&'a [u8]>
     ensures { IfSome result (λ bytes. length bytes.now ≤ length room.old) }
 {
-    let mut file = open(rt, path)?;
+    let mut file = open_named(rt, name)?;
     let len = read_full(&mut file, room);
     Some(&room[..len])
 }

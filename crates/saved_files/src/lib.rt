@@ -23,14 +23,15 @@ pub enum Stored {
     Whole,
 }
 
-// A file's refusal and why, its head, the tag of its first ciphertext, and the checksum of its bytes.
+// A file's refusal and why, its head, the tag of its first ciphertext, the checksum of its bytes, and its words.
 #[derive(Clone, Copy)]
-pub struct Loaded {
+pub struct Loaded<'a, W> {
     pub refusal: Result<(), Refusal>,
     pub stored: Stored,
     pub head: Head,
     pub tag: LweTag,
     pub checksum: u32,
+    pub words: &'a [W],
 }
 
 // A word of a file as a room keeps it.
@@ -78,19 +79,26 @@ pub fn stored_as(file: Option<&[u8]>) -> Stored
     }
 }
 
-// A file with its words, as many as the room holds.
-pub fn load<W: SavedWord>(rt: &(impl Files + Eprint), path: &[u8], words: &mut [W]) -> Loaded {
+// A file with its words, as many as there is room for.
+pub fn load<'a, W: SavedWord>(
+    rt: &(impl Files + Eprint),
+    name: &str,
+    words: &'a mut [W],
+) -> Loaded<'a, W> {
     let mut room = [0u8; ROOM];
-    let file = programs::read_file(rt, path, &mut room);
+    let file = programs::read_file(rt, name, &mut room);
     let bytes = file.unwrap_or(&[]);
+    let head = saved_head::head_of(bytes);
     for (i, word) in words.iter_mut().enumerate() {
         *word = W::at(bytes, i);
     }
+    let count = words.len().min(head.words as usize);
     Loaded {
         refusal: saved_head::file_refusal(bytes),
         stored: stored_as(file),
-        head: saved_head::head_of(bytes),
+        head,
         tag: saved::tag_at(bytes, 0),
         checksum: checksum(bytes),
+        words: &words[..count],
     }
 }

@@ -1,0 +1,51 @@
+// The total of the shops' rows, as the box collects it.
+use crate::{PLACES, PLAINTEXT_MODULUS, reasons};
+use check_order::Refusal;
+use pooling::{PoolParameters, add_saved, begin_saved};
+use primus_lattice::LweTag;
+
+// The words of the total, the number of a tag for each place, and how many rows were added.
+#[derive(Drop)]
+pub(crate) struct Pool<'a> {
+    pub(crate) params: PoolParameters,
+    pub(crate) total: &'a mut [u32],
+    pub(crate) tallies: [u64; PLACES],
+    pub(crate) rows: u32,
+}
+
+impl Pool<'_> {
+    // The first row that is accepted is the total, and the others are added to it. A row goes in whole, or not at all.
+    pub(crate) fn add(&mut self, row: &[u8]) -> Result<(), Refusal> {
+        if self.rows == 0 {
+            begin_saved(self.params, row, self.total, &mut self.tallies)?;
+        } else {
+            add_saved(self.params, row, self.total, &mut self.tallies)?;
+        }
+        self.rows = self.rows.saturating_add(1);
+        Ok(())
+    }
+
+    // The mark of each place. It counts one rounding, however many rows were added.
+    pub(crate) fn print_marks(&self, rt: &impl Print) {
+        for (i, number) in self.tallies.iter().enumerate() {
+            let tag = LweTag::with_tally(*number);
+            let _ = match tag.tally() {
+                None => print!(rt; "  casting {}: no tally", i + 1),
+                Some(a) => print!(rt; "  casting {}: tally {a}", i + 1),
+            };
+            match tag.is_good(self.params.modulus, PLAINTEXT_MODULUS) {
+                Ok(good) => print_good(rt, good),
+                Err(reason) => reasons::refused(rt, reason),
+            }
+        }
+    }
+}
+
+fn print_good(rt: &impl Print, good: bool) {
+    let mark = if good {
+        "marked good"
+    } else {
+        "not marked good"
+    };
+    let _ = println!(rt; ", {mark}");
+}
