@@ -19,21 +19,6 @@ use Rattle.lwe_parameters.specs.declared.parameter.LweDecryptionParameters.{LweD
 use Rattle.lwe_parameters.specs.Answers.{phases_in, phase_parameters_rows, decryption_parameters_rows, judged_rows}
 use Rattle.lwe_refusals.specs.Rows.{encrypt_rows, phase_rows}
 
--- ---- one function judges a call that takes t and one that does not
-
-pub judged_without : (more : List Check) (P : LwePhaseParameters) → applies more 7 ≡ false → applies more 8 ≡ false
-    → refusal (judged_rows false false P ++ more) ≡ refusal (phase_parameters_rows P ++ more)
-unfolding refusal first_in
-judged_without more P seven eight = rw (seven, eight)
-
-pub judged_with : (more : Modulus → ℕ → List Check) (P : LweDecryptionParameters) {Q : LwePhaseParameters} {b s : Bool} → Q ≡ phases_in P
-    → b ≡ plaintext_fails P.plaintext_modulus → s ≡ small_fails P.plaintext_modulus (meant P.modulus)
-    → refusal (judged_rows b s Q ++ more Q.modulus Q.dimension.0) ≡ refusal (decryption_parameters_rows P ++ more P.modulus P.dimension.0)
-unfolding refusal first_in
-judged_with more P {Q} {b} {s} eq eb es =
-    ap (λ Q. refusal (judged_rows b s Q ++ more Q.modulus Q.dimension.0)) eq
-    ∙ ap₂ (λ b s. refusal (judged_rows b s (phases_in P) ++ more P.modulus P.dimension.0)) eb es
-
 -- ---- what the checks leave
 
 -- of an encryption: q, and the lengths of mask and output

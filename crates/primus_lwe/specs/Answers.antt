@@ -1,5 +1,5 @@
 -- What each call promises.
-use Rattle.std.specs.Prelude.{false, List, ◌≡◌, ℕ, ℤ, pos, length, get_or}
+use Rattle.std.specs.Prelude.{false, List, ◌≡◌, ℕ, ℤ, pos, length, get_or, Result}
 use Rattle.scheme.specs.Lwe.{Key, secret_of, encrypted, phase_of}
 use Rattle.scheme.specs.Codec.{decode}
 use Rattle.scheme.specs.Tally.{Fresh}
@@ -8,9 +8,9 @@ use Rattle.primus_reduce.specs.Ring.{meant, size_of}
 use Rattle.primus_reduce.specs.declared.modulus.Modulus.{Modulus}
 use Rattle.primus_encoding.specs.declared.PlaintextEmbedding.{PlaintextEmbedding}
 use Rattle.primus_encoding.specs.Answers.{encode_word}
-use Rattle.checks.specs.Answers.{word_answer}
-use Rattle.checks.specs.declared.WordAnswer.{WordAnswer}
-use Rattle.lwe_tag.specs.declared.LweAnswer.{LweAnswer}
+use Rattle.check_order.specs.declared.refusal.Refusal.{Refusal}
+use Rattle.check_order.specs.Answer.{answer}
+use Rattle.lwe_tag.specs.declared.LweTag.{LweTag}
 use Rattle.lwe_tag.specs.Answers.{tag_from, WritesTagged}
 use Rattle.lwe_parameters.specs.declared.parameter.LweEncryptionParameters.{LweEncryptionParameters}
 use Rattle.lwe_parameters.specs.declared.parameter.LwePhaseParameters.{LwePhaseParameters}
@@ -22,15 +22,15 @@ use Rattle.lwe_refusals.specs.Rows.{encrypt_rows, phase_rows, message_rows, decr
 
 -- "b = ⟨a, s⟩ + e + p": the output holds a and b, and has tally E
 pub record Encrypts (P : LweEncryptionParameters) (key : Key) (a : List ℕ) (es : List ℤ) (p : ℕ) (before : List ℕ)
-    (answer : LweAnswer) (after : List ℕ) : Type 0 where
+    (given : Result LweTag Refusal) (after : List ℕ) : Type 0 where
   pub writes :
       WritesTagged (encrypt_rows P key a es p (length before)) (tag_from (Fresh P.error_limit))
       (encrypted (size_of P.modulus) P.dimension.0 a (secret_of key) (get_or es 0 (pos 0)) (pos p))
-      before answer after
+      before given after
 
 -- "Phase = b − ⟨a, s⟩"
-pub record TakesPhase (P : LwePhaseParameters) (key : Key) (x : List ℕ) (answer : WordAnswer) : Type 0 where
-  pub is : answer ≡ word_answer (phase_rows P key x) (phase_of (size_of P.modulus) P.dimension.0 x (secret_of key))
+pub record TakesPhase (P : LwePhaseParameters) (key : Key) (x : List ℕ) (given : Result ℕ Refusal) : Type 0 where
+  pub is : given ≡ answer (phase_rows P key x) (phase_of (size_of P.modulus) P.dimension.0 x (secret_of key))
 
 -- ---- a message below t
 
@@ -43,16 +43,16 @@ encodings g P xs i = encoded g P (get_or xs i 0)
 
 -- "b = ⟨a, s⟩ + e + p" of the plaintext p of x, with tally E
 pub record EncryptsMessage (P : LweParameters) (g : PlaintextEmbedding) (key : Key) (a : List ℕ) (es : List ℤ) (x : ℕ)
-    (before : List ℕ) (answer : LweAnswer) (after : List ℕ) : Type 0 where
+    (before : List ℕ) (given : Result LweTag Refusal) (after : List ℕ) : Type 0 where
   pub writes :
       WritesTagged (message_rows P key a es x (length before)) (tag_from (Fresh P.error_limit))
       (encrypted (size_of P.modulus) P.dimension.0 a (secret_of key) (get_or es 0 (pos 0)) (encoded g P x))
-      before answer after
+      before given after
 
 -- the message is the decoded phase
-pub record Decrypts (P : LweDecryptionParameters) (key : Key) (x : List ℕ) (answer : WordAnswer) : Type 0 where
+pub record Decrypts (P : LweDecryptionParameters) (key : Key) (x : List ℕ) (given : Result ℕ Refusal) : Type 0 where
   pub is :
-      answer ≡ word_answer (decrypt_rows P key x)
+      given ≡ answer (decrypt_rows P key x)
       (decode (size_of P.modulus) P.plaintext_modulus
       (phase_of (size_of P.modulus) P.dimension.0 x (secret_of key)))
 

@@ -4,10 +4,7 @@
 mod secret_key;
 
 pub use lwe_parameters::{
-    LweDecryptionParameters, LweEncryptionParameters, LweEncryptionParametersAnswer, LweParameters,
-    LweParametersAnswer, LwePhaseParameters,
+    LweDecryptionParameters, LweEncryptionParameters, LweParameters, LwePhaseParameters,
 };
-pub use secret_key::{
-    decrypt_message, decrypt_message_signed, decrypt_phase, decrypt_phase_signed,
-    encrypt_encoded_signed_to, encrypt_encoded_to, encrypt_message_signed_to, encrypt_message_to,
-};
+pub use lwe_secret_key::LweSecretKeyRef;
+pub use secret_key::{decrypt_message, decrypt_phase, encrypt_encoded_to, encrypt_message_to};

@@ -2,9 +2,5 @@
 mod borrowed;
 mod message;
 
-pub use borrowed::{
-    decrypt_phase, decrypt_phase_signed, encrypt_encoded_signed_to, encrypt_encoded_to,
-};
-pub use message::{
-    decrypt_message, decrypt_message_signed, encrypt_message_signed_to, encrypt_message_to,
-};
+pub use borrowed::{decrypt_phase, encrypt_encoded_to};
+pub use message::{decrypt_message, encrypt_message_to};
