@@ -1,5 +1,5 @@
 -- What each call on a batch promises. Masks and errors are lent in order of the rows.
-use Rattle.std.specs.Prelude.{List, ◌≡◌, ℕ, ◌+◌, ◌*◌, ◌/◌, ◌<◌, ℤ, length}
+use Rattle.std.specs.Prelude.{List, ◌≡◌, ℕ, ◌+◌, ◌*◌, ◌/◌, ◌<◌, ℤ, length, Result}
 use Rattle.scheme.specs.Numbers.{tabulate}
 use Rattle.scheme.specs.Lwe.{Key, secret_of, signed, encrypted_rows, phase_of, row_of}
 use Rattle.scheme.specs.Codec.{decode}
@@ -11,18 +11,19 @@ use Rattle.lwe_parameters.specs.declared.parameter.LweDecryptionParameters.{LweD
 use Rattle.lwe_parameters.specs.declared.parameter.LweParameters.{LweParameters}
 use Rattle.lwe_batch_refusals.specs.Rows.{encrypt_batch_rows, phases_rows, decrypt_batch_rows}
 use Rattle.primus_lwe.specs.Answers.{encodings}
-use Rattle.lwe_tag.specs.declared.LweAnswer.{LweAnswer}
+use Rattle.check_order.specs.declared.refusal.Refusal.{Refusal}
+use Rattle.lwe_tag.specs.declared.LweTag.{LweTag}
 use Rattle.lwe_tag.specs.Answers.{tag_from, WritesTagged}
 use Rattle.scheme.specs.Tally.{Fresh}
 
 -- each row is one encryption, with tally E
 pub record EncryptsBatch (P : LweParameters) (g : PlaintextEmbedding) (key : Key) (masks : List ℕ) (es : List ℤ)
-    (xs before : List ℕ) (answer : LweAnswer) (after : List ℕ) : Type 0 where
+    (xs before : List ℕ) (given : Result LweTag Refusal) (after : List ℕ) : Type 0 where
   pub writes :
       WritesTagged (encrypt_batch_rows P key masks es xs (length before)) (tag_from (Fresh P.error_limit))
       (encrypted_rows (size_of P.modulus) P.dimension.0 (length xs) masks (secret_of key) (signed es)
       (encodings g P xs))
-      before answer after
+      before given after
 
 -- the phase of ciphertext i
 abbrev pub batch_phase : ℕ → ℕ → Key → List ℕ → ℕ → ℕ

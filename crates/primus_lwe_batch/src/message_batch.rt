@@ -4,14 +4,16 @@ ghost use Rattle.scheme.specs.Numbers.{tabulate};
 ghost use Rattle.scheme.specs.Lwe.{Words, words, signed, encrypted_rows};
 ghost use Rattle.scheme.specs.Checks.{messages_fail};
 ghost use Rattle.primus_reduce.specs.Ring.{size_of};
+ghost use Rattle.check_order.specs.Answer.{code_of};
 ghost use Rattle.primus_lwe.specs.Answers.{Codable, encodings};
 ghost use Rattle.lwe_secret_key.specs.Runs.{Run};
 ghost use Rattle.primus_lwe_batch.specs.Answers.{EncryptsBatch, Rowwise, batch_phase, TakesPhases, DecryptsBatch};
 
+use check_order::Refusal;
 use lwe_batch_refusals::{decrypt_refusal, encrypt_refusal};
 use lwe_parameters::{LweDecryptionParameters, LweParameters, LwePhaseParameters};
-use lwe_secret_key::{KeyForm, encrypt_row, phase};
-use lwe_tag::{LweAnswer, LweTag};
+use lwe_secret_key::LweSecretKeyRef;
+use lwe_tag::LweTag;
 use primus_encoding::{PlaintextEmbedding, RoundedCodec, encode_or_zero};
 use primus_reduce::Modulus;
 
@@ -34,25 +36,13 @@ fn write_messages(
         masks.now (words secret.now) (signed errors.now)
         (encodings embedding params messages.now) }
 {
+    let key = LweSecretKeyRef::Encoded(secret);
     let modulus = params.modulus;
     let t = params.plaintext_modulus;
     let n = secret.len();
-    let mut i = 0;
-    while i < errors.len() {
-        let plaintext = encode_or_zero(t, modulus, messages[i], embedding);
-        encrypt_row(
-            out,
-            KeyForm::Words,
-            secret,
-            &[],
-            masks,
-            n,
-            errors,
-            i,
-            plaintext,
-            modulus,
-        );
-        i += 1;
+    for (i, message) in messages.iter().enumerate() {
+        let plaintext = encode_or_zero(t, modulus, *message, embedding);
+        key.encrypt_row(out, masks, n, errors, i, plaintext, modulus);
     }
 }
 
@@ -65,16 +55,13 @@ pub fn encrypt_message_batch_to(
     errors: &[i32],
     messages: &[u32],
     out: &mut [u32],
-) -> LweAnswer
+) -> Result<LweTag, Refusal>
     ensures { EncryptsBatch params embedding (Words secret.now) masks.now
         errors.now messages.now out.old result out.new }
 {
-    let r = encrypt_refusal(params, secret, masks, errors, messages, out.len());
-    if r != 0 {
-        return LweAnswer::Refused(r);
-    }
+    encrypt_refusal(params, secret, masks, errors, messages, out.len())?;
     write_messages(out, params, embedding, secret, masks, errors, messages);
-    LweAnswer::Written(LweTag::with_tally(params.error_limit as u64))
+    Ok(LweTag::with_tally(u64::from(params.error_limit)))
 }
 
 // The phase of row i.
@@ -86,8 +73,7 @@ fn row_phase(input: &[u32], secret: &[u32], i: usize, modulus: Modulus) -> u32
 {
     let n = secret.len();
     let at = i * (n + 1);
-    let end = at + (n + 1);
-    phase(KeyForm::Words, secret, &[], &input[at..end], n, modulus)
+    LweSecretKeyRef::Encoded(secret).phase(&input[at..at + (n + 1)], n, modulus)
 }
 
 fn row_phases(out: &mut [u32], input: &[u32], secret: &[u32], modulus: Modulus)
@@ -96,10 +82,8 @@ fn row_phases(out: &mut [u32], input: &[u32], secret: &[u32], modulus: Modulus)
         (batch_phase (size_of modulus) (length secret.now) (Words secret.now)
         input.now) }
 {
-    let mut i = 0;
-    while i < out.len() {
-        out[i] = row_phase(input, secret, i, modulus);
-        i += 1;
+    for (i, phase) in out.iter_mut().enumerate() {
+        *phase = row_phase(input, secret, i, modulus);
     }
 }
 
@@ -109,17 +93,13 @@ pub fn decrypt_phase_batch_to(
     secret: &[u32],
     input: &[u32],
     out: &mut [u32],
-) -> u32
-    ensures { TakesPhases params (Words secret.now) input.now out.old result
+) -> Result<(), Refusal>
+    ensures { TakesPhases params (Words secret.now) input.now out.old (code_of result)
         out.new }
 {
-    let r = decrypt_refusal(params, false, false, secret, input, out.len());
-    if r != 0 {
-        return r;
-    }
-    let modulus = params.modulus;
-    row_phases(out, input, secret, modulus);
-    0
+    decrypt_refusal(params, None, secret, input, out.len())?;
+    row_phases(out, input, secret, params.modulus);
+    Ok(())
 }
 
 // decode of the phase of each ciphertext. Refuses by 2, 6, 7, 8, 9, 10, 11, 14.
@@ -128,19 +108,13 @@ pub fn decrypt_message_batch_to(
     secret: &[u32],
     input: &[u32],
     out: &mut [u32],
-) -> u32
-    ensures { DecryptsBatch params (Words secret.now) input.now out.old result
+) -> Result<(), Refusal>
+    ensures { DecryptsBatch params (Words secret.now) input.now out.old (code_of result)
         out.new }
 {
     let modulus = params.modulus;
     let t = params.plaintext_modulus;
-    let plaintext = checks::plaintext_refused(t);
-    let small = checks::small_refused(t, modulus);
-    let phases = params.phase_parameters();
-    let r = decrypt_refusal(phases, plaintext, small, secret, input, out.len());
-    if r != 0 {
-        return r;
-    }
+    decrypt_refusal(params.into(), Some(t), secret, input, out.len())?;
     row_phases(out, input, secret, modulus);
     RoundedCodec::given(t, modulus).decode_slice_assign(out)
 }

@@ -1,5 +1,4 @@
-use native.Mathlib.Omega.{arith}
-use lib.ListN.{length}
+use Rattle.std.proofs.Common.{length, arith}
 use Rattle.scheme.specs.Lwe.{Words}
 use Rattle.scheme.proofs.InPlace.{tabled_start, tabled_next, filled_end}
 use Rattle.primus_reduce.specs.Ring.{size_of}

@@ -1,5 +1,4 @@
-use Prim.Native.Nat.{◌-◌}
-use lib.ListN.{length}
+use Rattle.std.proofs.Common.{length}
 use Rattle.scheme.specs.Numbers.{tabulate}
 use Rattle.scheme.specs.Lwe.{Words}
 use Rattle.scheme.proofs.InPlace.{Filled}
@@ -9,6 +8,3 @@ use Rattle.primus_lwe_batch.proofs.message_batch.row_phases.Given as goal
 
 abbrev pub invariant-loop-i : goal.invariant-loop-i
 invariant-loop-i l = Filled (tabulate (length l.initial.out) (batch_phase (size_of l.modulus) (length l.secret) (Words l.secret) l.input)) l.initial.out l.out l.i
-
-abbrev pub decreases-loop-i : goal.decreases-loop-i
-decreases-loop-i l = length l.initial.out - l.i

@@ -13,9 +13,9 @@ loop-i-init c =
 
 pub loop-i-preserved : goal.loop-i-preserved
 loop-i-preserved c =
-    rows_more (size_of c.args.params.modulus) (length c.args.secret.now) c.args.masks.now (words c.args.secret.now) (signed c.args.errors.now) (encodings c.args.embedding c.args.params c.args.messages.now) (length c.args.errors.now) c.args.out.now c.loop-i.out c.loop-i.i c.loop-i.invariant c.loop-i-test.true _
-    (encoded_at c.args.params c.requires.2 c.args.embedding c.args.messages.now c.loop-i.i c.requires.3 (omega (arith, c.requires.1)) c.encode_or_zero-plaintext.ensures) _ c.encrypt_row.ensures
+    rows_more (size_of c.args.params.modulus) (length c.args.secret.now) c.args.masks.now (words c.args.secret.now) (signed c.args.errors.now) (encodings c.args.embedding c.args.params c.args.messages.now) (length c.args.errors.now) c.args.out.now c.loop-i.out c.loop-i.i c.loop-i.invariant (omega (arith, c.requires.1, c.loop-i-test.true)) _
+    (encoded_at c.args.params c.requires.2 c.args.embedding c.args.messages.now c.loop-i.i c.requires.3 (omega arith) c.encode_or_zero-plaintext.ensures) _ c.encrypt_row.ensures
 
 pub returns : goal.returns
 returns c =
-    rows_done (size_of c.args.params.modulus) (length c.args.secret.now) c.args.masks.now (words c.args.secret.now) (signed c.args.errors.now) (encodings c.args.embedding c.args.params c.args.messages.now) (length c.args.errors.now) c.args.out.now c.loop-i.out c.loop-i.i c.loop-i.invariant c.loop-i-test.false
+    rows_done (size_of c.args.params.modulus) (length c.args.secret.now) c.args.masks.now (words c.args.secret.now) (signed c.args.errors.now) (encodings c.args.embedding c.args.params c.args.messages.now) (length c.args.errors.now) c.args.out.now c.loop-i.out c.loop-i.i c.loop-i.invariant (omega (arith, c.requires.1, c.loop-i-test.false))
