@@ -1,22 +1,20 @@
 -- One function judges a call that takes t and one that does not; and what the checks of a call leave.
 -- Assumes nothing.
-use mathlib.Core.Path.{◌≡◌, ap, ap₂, ◌∙◌}
-use mathlib.Core.Bool.{Bool, false, ◌||◌}
-use mathlib.Core.List.{List, ◌++◌}
+use mathlib.Core.Path.{◌≡◌}
+use mathlib.Core.Bool.{false, ◌||◌}
+use mathlib.Core.List.{List}
 use Prim.Native.Nat.{ℕ, ◌+◌, ◌<◌}
 use native.Mathlib.Omega.{arith}
 use lib.IntN.{ℤ}
 use lib.ListN.{length}
 use Rattle.scheme.specs.Lwe.{Key, key_length, words}
-use Rattle.scheme.specs.Checks.{Check, applies, refusal, first_in, modulus_fails, plaintext_fails, small_fails, length_fails}
+use Rattle.scheme.specs.Checks.{refusal, modulus_fails, length_fails}
 use Rattle.scheme.proofs.Checks.{modulus_ok, length_ok}
 use Rattle.scheme.proofs.Order.{passed, neither}
 use Rattle.primus_reduce.specs.Ring.{meant, size_of}
 use Rattle.primus_reduce.specs.declared.modulus.Modulus.{Modulus}
 use Rattle.lwe_parameters.specs.declared.parameter.LweEncryptionParameters.{LweEncryptionParameters}
 use Rattle.lwe_parameters.specs.declared.parameter.LwePhaseParameters.{LwePhaseParameters}
-use Rattle.lwe_parameters.specs.declared.parameter.LweDecryptionParameters.{LweDecryptionParameters}
-use Rattle.lwe_parameters.specs.Answers.{phases_in, phase_parameters_rows, decryption_parameters_rows, judged_rows}
 use Rattle.lwe_refusals.specs.Rows.{encrypt_rows, phase_rows}
 
 -- ---- what the checks leave

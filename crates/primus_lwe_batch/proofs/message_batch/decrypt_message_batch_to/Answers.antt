@@ -1,4 +1,4 @@
-use Rattle.std.proofs.Common.{sym, length, ◌∙◌}
+use Rattle.std.proofs.Common.{sym, length}
 use Rattle.std.proofs.lemmas.Result.{err_from_is_err_and}
 use Rattle.scheme.specs.Lwe.{Words}
 use Rattle.check_order.proofs.Answers.{unwritten}
