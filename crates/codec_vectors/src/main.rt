@@ -1,4 +1,4 @@
-// Compares the codec with data/codec.bin, which scripts/codec_vectors.py makes from document 01 and describes, and
+// Compares the codec with data/codec.bin, which scripts/codec_vectors.py makes from the scheme's definitions and describes, and
 // with data/oracle.bin, which holds what the Rust answered (oracle/sample.py).
 #![tactic(auto)]
 
@@ -14,85 +14,71 @@ use std::rt::Files;
 struct Score {
     compared: u32,
     wrong: u32,
-    first: u32,
+    first: Option<u32>,
 }
 
-#[derive(Clone, Copy)]
-struct Outcome {
-    more: bool,
-    right: bool,
+impl Score {
+    const NONE: Score = Score {
+        compared: 0,
+        wrong: 0,
+        first: None,
+    };
+
+    // One record more. A count that is full stays.
+    fn counted(self, right: bool) -> Score {
+        let Some(compared) = self.compared.checked_add(1) else {
+            return self;
+        };
+        if right {
+            return Score { compared, ..self };
+        }
+        Score {
+            compared,
+            wrong: self.wrong.saturating_add(1),
+            first: self.first.or(Some(self.compared)),
+        }
+    }
 }
 
-fn more(right: bool) -> Outcome {
-    Outcome { more: true, right }
+// What stands next in a file: a record and whether the codec answers as it says, or the file's end.
+enum Next {
+    Record(bool),
+    End,
+    // No end record, or another tag.
+    Broken,
 }
 
-fn ended(right: bool) -> Outcome {
-    Outcome { more: false, right }
+// The N bytes of a record.
+fn record<const N: usize>(input: &mut impl Read) -> Option<[u8; N]> {
+    let mut r = [0u8; N];
+    if programs::read_full(input, &mut r) == N {
+        Some(r)
+    } else {
+        None
+    }
 }
 
-fn value_turn(input: &mut impl Read) -> Outcome {
-    let mut r = [0u8; 37];
-    let n = programs::read_full(input, &mut r);
-    more(n == 37 && values::right(&r))
-}
-
-fn slice_turn(input: &mut impl Read) -> Outcome {
-    let mut r = [0u8; 86];
-    let n = programs::read_full(input, &mut r);
-    more(n == 86 && slices::right(&r))
-}
-
-// One record. A file that ends without its end record, or has another tag, counts as one more that differs.
-fn turn(input: &mut impl Read) -> Outcome {
+fn turn(input: &mut impl Read) -> Next {
     let mut tag = [0u8; 1];
-    let n = programs::read_full(input, &mut tag);
-    if n < 1 {
-        return ended(false);
+    if programs::read_full(input, &mut tag) < 1 {
+        return Next::Broken;
     }
     match tag[0] {
-        0 => ended(true),
-        1 => value_turn(input),
-        2 => slice_turn(input),
-        _ => ended(false),
-    }
-}
-
-fn next(s: Score, right: bool) -> Score {
-    let compared = s.compared;
-    let wrong = s.wrong;
-    if compared == u32::MAX {
-        return s;
-    }
-    if wrong == u32::MAX {
-        return s;
-    }
-    if right {
-        return Score {
-            compared: compared + 1,
-            wrong,
-            first: s.first,
-        };
-    }
-    Score {
-        compared: compared + 1,
-        wrong: wrong + 1,
-        first: if wrong == 0 { compared } else { s.first },
+        0 => Next::End,
+        1 => Next::Record(record::<37>(input).is_some_and(|r| values::right(&r))),
+        2 => Next::Record(record::<86>(input).is_some_and(|r| slices::right(&r))),
+        _ => Next::Broken,
     }
 }
 
 fn all(input: &mut impl Read, before: Score) -> Score {
     let mut s = before;
-    let mut turns = u64::MAX;
-    while turns > 0 {
-        let t = turn(input);
-        if t.more || !t.right {
-            s = next(s, t.right);
+    for _ in 0..u64::MAX {
+        match turn(input) {
+            Next::Record(right) => s = s.counted(right),
+            Next::End => return s,
+            Next::Broken => return s.counted(false),
         }
-        if !t.more {
-            return s;
-        }
-        turns -= 1;
     }
     s
 }
@@ -101,21 +87,16 @@ fn all(input: &mut impl Read, before: Score) -> Score {
 fn file(rt: &(impl Files + Eprint), path: &[u8], s: Score) -> Score {
     match programs::open(rt, path) {
         Some(mut file) => all(&mut file, s),
-        None => next(s, false),
+        None => s.counted(false),
     }
 }
 
 fn main(rt: HostRuntime) {
-    let none = Score {
-        compared: 0,
-        wrong: 0,
-        first: 0,
-    };
-    let made = file(&rt, b"codec.bin", none);
+    let made = file(&rt, b"codec.bin", Score::NONE);
     let s = file(&rt, b"oracle.bin", made);
     programs::say(&rt, b"compared ", s.compared as u64);
     programs::say(&rt, b"wrong ", s.wrong as u64);
-    if s.wrong != 0 {
-        programs::say(&rt, b"first wrong ", s.first as u64);
+    if let Some(first) = s.first {
+        programs::say(&rt, b"first wrong ", first as u64);
     }
 }

@@ -1,41 +1,31 @@
 // A value record: try_new, the value calls in both embeddings, and the C call.
-use checks::WordAnswer;
-use primus_encoding::{MessageDecoder, PlaintextEmbedding, RoundedCodec, RoundedCodecAnswer};
+use check_order::Refusal;
+use primus_encoding::{MessageDecoder, PlaintextEmbedding, RoundedCodec};
 
-fn is(answer: WordAnswer, refusal: u32, value: u32) -> bool {
+fn is(answer: Result<u32, Refusal>, refusal: u32, value: u32) -> bool {
     match answer {
-        WordAnswer::Word(x) => refusal == 0 && x == value,
-        WordAnswer::Refused(n) => n == refusal && n != 0,
+        Ok(x) => refusal == 0 && x == value,
+        Err(reason) => u32::from(reason) == refusal,
     }
 }
 
 fn encodings_right(codec: RoundedCodec, r: &[u8]) -> bool {
     let x = little_endian::u32_at(r, 9);
     let refusal = little_endian::u8_at(r, 18);
-    if !is(
-        codec.encode_value(x, PlaintextEmbedding::Unsigned),
-        refusal,
-        little_endian::u32_at(r, 19),
-    ) {
-        return false;
-    }
-    if !is(
-        codec.encode_value(x, PlaintextEmbedding::Centered),
-        refusal,
-        little_endian::u32_at(r, 23),
-    ) {
-        return false;
-    }
+    let plain = codec.encode_value(x, PlaintextEmbedding::Unsigned);
+    let centered = codec.encode_value(x, PlaintextEmbedding::Centered);
     let sum = codec.add_encode_value_assign(
         little_endian::u32_at(r, 13),
         x,
         PlaintextEmbedding::Centered,
     );
-    is(
-        sum,
-        little_endian::u8_at(r, 27),
-        little_endian::u32_at(r, 28),
-    )
+    is(plain, refusal, little_endian::u32_at(r, 19))
+        && is(centered, refusal, little_endian::u32_at(r, 23))
+        && is(
+            sum,
+            little_endian::u8_at(r, 27),
+            little_endian::u32_at(r, 28),
+        )
 }
 
 fn decodings_right(codec: RoundedCodec, r: &[u8]) -> bool {
@@ -66,10 +56,12 @@ fn c_right(r: &[u8]) -> bool {
 
 pub(crate) fn right(r: &[u8]) -> bool {
     let refusal = little_endian::u8_at(r, 17);
-    match RoundedCodec::try_new(little_endian::u32_at(r, 5), programs::modulus_at(r, 0)) {
-        RoundedCodecAnswer::Accepted(codec) => {
-            refusal == 0 && encodings_right(codec, r) && decodings_right(codec, r) && c_right(r)
-        }
-        RoundedCodecAnswer::Refused(n) => n == refusal && n != 0 && c_right(r),
-    }
+    let calls_right = match RoundedCodec::try_new(
+        little_endian::u32_at(r, 5),
+        programs::modulus_at(r, 0),
+    ) {
+        Ok(codec) => refusal == 0 && encodings_right(codec, r) && decodings_right(codec, r),
+        Err(reason) => u32::from(reason) == refusal,
+    };
+    calls_right && c_right(r)
 }
