@@ -25,7 +25,7 @@ pub extern "C" fn saigagalena_add(
         y.now y_tag z x.new) result }
 {
     LweOutcome::from(add_assign(
-        Modulus::from_number(modulus),
+        Modulus::from(modulus),
         LweDimension::given(n),
         x,
         x_tag,
@@ -47,7 +47,7 @@ pub extern "C" fn saigagalena_extract(
         out.old x out.new) result }
 {
     LweOutcome::from(extract_lwe_at(
-        Modulus::from_number(modulus),
+        Modulus::from(modulus),
         LweDimension::given(n),
         input,
         index,
@@ -68,5 +68,5 @@ pub extern "C" fn saigagalena_saved_tag(tally: u64) -> LweTag
 pub extern "C" fn saigagalena_is_good(modulus: u32, t: u32, tag: LweTag) -> u64
     ensures { result ≡ mark_number (mark_answer tag (modulus_for modulus) t) }
 {
-    c_numbers::mark_number(tag.is_good(Modulus::from_number(modulus), t))
+    c_numbers::mark_number(tag.is_good(Modulus::from(modulus), t))
 }
