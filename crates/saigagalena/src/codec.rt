@@ -10,8 +10,7 @@ ghost use Rattle.c_numbers.specs.Service.{encode_number, decode_number};
 pub extern "C" fn saigagalena_encode(modulus: u32, t: u32, centered: u32, message: u32) -> u64
     ensures { result ≡ encode_number modulus t centered message }
 {
-    let codec = c_numbers::codec_for(modulus, t);
-    c_numbers::word_number(codec.encode_value(message, c_numbers::embedding_for(centered)))
+    c_numbers::encode_number(modulus, t, centered, message)
 }
 
 // decode(word), or 2^32 plus the first of 2, 7, 8, 14 that applies.
@@ -19,8 +18,7 @@ pub extern "C" fn saigagalena_encode(modulus: u32, t: u32, centered: u32, messag
 pub extern "C" fn saigagalena_decode(modulus: u32, t: u32, word: u32) -> u64
     ensures { result ≡ decode_number modulus t word }
 {
-    let codec = c_numbers::codec_for(modulus, t);
-    c_numbers::word_number(codec.decode_value(word))
+    c_numbers::decode_number(modulus, t, word)
 }
 
 // encode of each message, in its place. Refuses by 2, 7, 8, 11, 16.
