@@ -1,6 +1,6 @@
 -- What the checks of a length leave: every length is a word.
 -- Assumes nothing.
-use mathlib.Core.Path.{◌≡◌}
+use mathlib.Core.Path.{◌≡◌, refl}
 use mathlib.Core.List.{[], append-nil}
 use Prim.Native.Nat.{ℕ, ◌+◌, ◌*◌, ◌/◌, ◌≤◌}
 use native.Mathlib.Nat.{mul-le-mul, div-le_self}
@@ -13,7 +13,7 @@ use Rattle.scheme.proofs.Checks.{dimension_ok, levels_ok}
 use Rattle.scheme.proofs.Order.{passed}
 use Rattle.primus_reduce.specs.Ring.{meant}
 use Rattle.key_switch_parameters.specs.declared.LweKeySwitchingParameters.{LweKeySwitchingParameters}
-use Rattle.key_switch_parameters.specs.Answers.{n_in, m_in, levels_in, parameter_rows}
+use Rattle.key_switch_parameters.specs.Answers.{n_in, m_in, levels_in, key_words, parameter_rows}
 use Rattle.key_switch_parameters.proofs.Passed.{judged}
 use Rattle.c_numbers.specs.Lengths.{dimension_rows, packed_rows}
 
@@ -56,3 +56,13 @@ keys P e =
       entries = entries;
       words = mul-le-mul {n₁ = n_in P * levels_in P} {m₁ = m_in P + 1} {n₂ = 2048 * 32} {m₂ = 2049} entries (omega (arith, j.output_most));
     }
+
+-- the same of numbers that are those of the parameters
+pub record Counts (P : LweKeySwitchingParameters) (n L m : ℕ) : Type 0 where
+  pub output : m ≤ 2048
+  pub entries : n * L ≤ 2048 * 32
+  pub words : n * L * (m + 1) ≤ 2048 * 32 * 2049
+  pub all : n * L * (m + 1) ≡ key_words P
+
+pub counts : (P : LweKeySwitchingParameters) {n L m : ℕ} → n ≡ n_in P → L ≡ levels_in P → m ≡ m_in P → refusal (parameter_rows P) ≡ 0 → Counts P n L m
+counts P e f g z = let k = keys P z in rw (e, f, g) (record { output = k.output; entries = k.entries; words = k.words; all = refl })

@@ -2,6 +2,7 @@
 ghost use Rattle.std.specs.Prelude.{◌≡◌, ◌+◌, ◌*◌};
 ghost use Rattle.scheme.specs.Checks.{refusal};
 ghost use Rattle.check_order.specs.Answer.{code_of, answer};
+ghost use Rattle.check_order.specs.Judged.{JudgesSizes};
 ghost use Rattle.key_switch_parameters.specs.Answers.{parameter_rows, key_words};
 ghost use Rattle.c_numbers.specs.Lengths.{dimension_rows, packed_rows};
 
