@@ -11,37 +11,28 @@ pub(crate) fn i32_bits_at(r: &[u8], i: usize) -> u64 {
 
 // A signed number by its 64 bits.
 pub(crate) fn bits(z: i64) -> u64 {
-    let n = readings_text::magnitude(z);
-    if z < 0 {
-        return std::num::wrapping_sub_u64(0, n);
-    }
-    n
+    z.cast_unsigned()
 }
 
-// Words from `first` on, `step` apart, are the numbers of the record from `at` on.
-pub(crate) fn run_is(
-    out: &[u32],
-    first: usize,
-    step: usize,
-    count: usize,
-    r: &[u8],
-    at: usize,
-) -> bool {
+// The words are the numbers of the record.
+pub(crate) fn run_is(out: &[u32], r: &[u8]) -> bool {
+    let mut p = 0;
     let mut right = true;
-    let mut i = first;
-    let mut p = at;
-    let mut j = 0;
-    while j < count {
-        if i < out.len() {
-            if out[i] != little_endian::u32_at(r, p) {
-                right = false;
-            }
-        } else {
-            right = false;
-        }
-        i = std::num::wrapping_add_usize(i, step);
-        p = std::num::wrapping_add_usize(p, 4);
-        j += 1;
+    for word in out {
+        right &= *word == little_endian::u32_at(r, p);
+        p = p.wrapping_add(4);
+    }
+    right
+}
+
+// The first and the last word of each run of three are the numbers of the record.
+pub(crate) fn ends_are(out: &[u32], r: &[u8]) -> bool {
+    let mut p = 0;
+    let mut right = true;
+    for run in out.chunks_exact(3) {
+        let number = little_endian::u32_at(r, p);
+        right &= matches!(run, [first, _, last] if *first == number && *last == number);
+        p = p.wrapping_add(4);
     }
     right
 }

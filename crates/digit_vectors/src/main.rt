@@ -9,6 +9,7 @@ mod word;
 use basis::Held;
 use std::io::Read;
 use std::rt::Files;
+use word::Expected;
 
 #[derive(Clone, Copy)]
 struct State {
@@ -18,119 +19,84 @@ struct State {
     wrong: u64,
 }
 
-#[derive(Clone, Copy)]
-struct Turn {
-    more: bool,
-    state: State,
+impl State {
+    fn count_basis(&mut self, right: bool) {
+        self.bases = self.bases.wrapping_add(1);
+        self.wrong = self.wrong.wrapping_add(u64::from(!right));
+    }
+
+    fn count_word(&mut self, right: bool) {
+        self.words = self.words.wrapping_add(1);
+        self.wrong = self.wrong.wrapping_add(u64::from(!right));
+    }
 }
 
-fn one_if(b: bool) -> u64 {
-    if b { 1 } else { 0 }
-}
-
-fn on_basis(input: &mut impl Read, s: State) -> Turn {
-    let mut r = [0u8; 94];
+// A record of N bytes, and whether all of it is there.
+fn record<const N: usize>(input: &mut impl Read) -> ([u8; N], bool) {
+    let mut r = [0; N];
     let n = programs::read_full(input, &mut r);
-    let held = s.held;
-    let c = basis::compare(&r, held);
-    let held = c.held;
-    let right = c.right && n == 94;
-    Turn {
-        more: n == 94,
-        state: State {
-            held,
-            bases: std::num::wrapping_add_u64(s.bases, 1),
-            words: s.words,
-            wrong: std::num::wrapping_add_u64(s.wrong, one_if(!right)),
-        },
-    }
+    (r, n == N)
 }
 
-fn counted(s: State, right: bool, more: bool) -> Turn {
-    let held = s.held;
-    Turn {
-        more,
-        state: State {
-            held,
-            bases: s.bases,
-            words: std::num::wrapping_add_u64(s.words, 1),
-            wrong: std::num::wrapping_add_u64(s.wrong, one_if(!right)),
-        },
-    }
+fn on_basis(input: &mut impl Read, s: &mut State) -> bool {
+    let (r, whole) = record::<94>(input);
+    let right = basis::compare(&r, &mut s.held);
+    s.count_basis(right && whole);
+    whole
 }
 
-fn on_word(input: &mut impl Read, s: State) -> Turn {
-    let mut r = [0u8; 85];
-    let n = programs::read_full(input, &mut r);
-    let held = s.held;
-    let right = word::compare(held, &r);
-    counted(s, right && n == 85, n == 85)
+fn on_word(input: &mut impl Read, s: &mut State) -> bool {
+    let (r, whole) = record::<85>(input);
+    s.count_word(word::compare(s.held, &Expected::new(&r)) && whole);
+    whole
 }
 
-fn on_short_word(input: &mut impl Read, s: State) -> Turn {
-    let mut r = [0u8; 28];
-    let n = programs::read_full(input, &mut r);
-    let held = s.held;
-    let right = word::compare_short(held, &r);
-    counted(s, right && n == 28, n == 28)
+fn on_short_word(input: &mut impl Read, s: &mut State) -> bool {
+    let (r, whole) = record::<28>(input);
+    s.count_word(word::compare(s.held, &Expected::short(&r)) && whole);
+    whole
 }
 
-// One record. The last is a zero byte; anything else is counted as wrong.
-fn one(input: &mut impl Read, s: State) -> Turn {
-    let mut tag = [0u8; 1];
-    let n = programs::read_full(input, &mut tag);
-    let t = tag[0];
-    if n == 1 {
-        if t == 1 {
-            return on_basis(input, s);
-        }
-        if t == 2 {
-            return on_word(input, s);
-        }
-        if t == 3 {
-            return on_short_word(input, s);
-        }
-        if t == 0 {
-            return Turn {
-                more: false,
-                state: s,
-            };
+// One record, and whether there may be more. The last is a zero byte; anything else is counted as wrong.
+fn one(input: &mut impl Read, s: &mut State) -> bool {
+    let (tag, whole) = record::<1>(input);
+    match (whole, tag[0]) {
+        (true, 1) => on_basis(input, s),
+        (true, 2) => on_word(input, s),
+        (true, 3) => on_short_word(input, s),
+        (true, 0) => false,
+        _ => {
+            s.count_word(false);
+            false
         }
     }
-    counted(s, false, false)
 }
 
-fn all(input: &mut impl Read, before: State) -> State {
-    let mut s = before;
-    let mut turns = u64::MAX;
-    while turns > 0 {
-        let t = one(input, s);
-        s = t.state;
-        if !t.more {
-            return s;
+fn all(input: &mut impl Read, s: &mut State) {
+    for _record in 0..u64::MAX {
+        if !one(input, s) {
+            return;
         }
-        turns -= 1;
     }
-    s
 }
 
 // The records of a file, counted on; a file that cannot be opened is one that is wrong.
-fn file(rt: &(impl Files + Eprint), path: &[u8], s: State) -> State {
+fn file(rt: &(impl Files + Eprint), path: &[u8], s: &mut State) {
     match programs::open(rt, path) {
         Some(mut file) => all(&mut file, s),
-        None => counted(s, false, false).state,
+        None => s.count_word(false),
     }
 }
 
 fn main(rt: HostRuntime) {
-    let none = State {
-        held: Held::Nothing,
+    let mut s = State {
+        held: None,
         bases: 0,
         words: 0,
         wrong: 0,
     };
-    let made = file(&rt, b"digits.bin", none);
-    let s = file(&rt, b"oracle.bin", made);
+    file(&rt, b"digits.bin", &mut s);
+    file(&rt, b"oracle.bin", &mut s);
     programs::say(&rt, b"bases ", s.bases);
     programs::say(&rt, b"words ", s.words);
     programs::say(&rt, b"wrong ", s.wrong);

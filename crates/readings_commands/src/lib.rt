@@ -4,6 +4,7 @@
 ghost use Rattle.std.specs.Prelude.{◌≡◌, ◌≤◌};
 ghost use Rattle.readings_commands.specs.Commands.{operands, over, basis_command, word_command, turn_of};
 
+use check_order::Refusal;
 use primus_decompose::ApproxSignedBasis;
 use primus_reduce::Modulus;
 use readings_core::{Reply, Session, Turn};
@@ -12,13 +13,11 @@ use readings_core::{Reply, Session, Turn};
 pub fn operand_count(command: u8) -> usize
     ensures { (result ≡ operands command) × (result ≤ 6) }
 {
-    if command == 1 {
-        return 6;
+    match command {
+        1 => 6,
+        2 => 4,
+        _ => 0,
     }
-    if command == 2 {
-        return 4;
-    }
-    0
 }
 
 // 19, and the end.
@@ -26,7 +25,7 @@ pub fn end(session: Session) -> Turn
     ensures { result ≡ over session }
 {
     Turn {
-        reply: Reply::Refused(19),
+        reply: Reply::Refused(Refusal::Unreadable),
         digits: [0; 16],
         session,
         more: false,
@@ -60,11 +59,9 @@ fn word_command(session: Session, operands: &[u8]) -> Turn
 pub fn answer(session: Session, command: u8, operands: &[u8]) -> Turn
     ensures { result ≡ turn_of session command operands.now }
 {
-    if command == 1 {
-        return basis_command(session, operands);
+    match command {
+        1 => basis_command(session, operands),
+        2 => word_command(session, operands),
+        _ => end(session),
     }
-    if command == 2 {
-        return word_command(session, operands);
-    }
-    end(session)
 }

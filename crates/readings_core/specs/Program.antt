@@ -1,21 +1,22 @@
 -- "The program `readings`": what a basis and a word answer, and what they leave for the next command.
-use Rattle.std.specs.Prelude.{true, List, ℕ, ℤ, pos}
+use Rattle.std.specs.Prelude.{true, List, ℕ, ℤ, pos, Option, Some, None, Result, Ok, Err}
 use Rattle.scheme.specs.Modulus as S
 use Rattle.scheme.specs.Basis as B
 use Rattle.primus_reduce.specs.Ring.{meant, number_of}
 use Rattle.readings_digits.specs.Digits.{numbers, shown_digit}
 use Rattle.primus_decompose.specs.Answers as A
-use Rattle.primus_decompose.specs.declared.error.ReadingAnswer.{ReadingAnswer}
-use Rattle.primus_decompose.specs.declared.error.ReadingAnswer.TheVariants as E
-use Rattle.checks.specs.declared.WordAnswer.{WordAnswer}
-use Rattle.checks.specs.declared.WordAnswer.TheVariants as W
+use Rattle.check_order.specs.declared.refusal.Refusal.{Refusal}
+use Rattle.check_order.specs.declared.refusal.Refusal.TheVariants as F
+use Rattle.gadget_constants.specs.declared.word.Reading.{Reading}
 use Rattle.primus_decompose.specs.declared.primitive.basis.ApproxSignedBasis.{ApproxSignedBasis}
-use Rattle.readings_core.specs.declared.command.Session.{Session}
-use Rattle.readings_core.specs.declared.command.Session.TheVariants.{Empty, Ready}
 use Rattle.readings_core.specs.declared.command.BasisReply.{BasisReply}
 use Rattle.readings_core.specs.declared.command.Reply.{Reply}
 use Rattle.readings_core.specs.declared.command.Reply.TheVariants.{Basis, Word, Refused}
 use Rattle.readings_core.specs.declared.command.Turn.{Turn}
+
+-- the basis that was accepted last, if any
+abbrev pub Session : Type 0
+Session = Option ApproxSignedBasis
 
 -- "`basis` q (0 = native) k base-log L d H T"
 abbrev pub basis_line : ApproxSignedBasis → ℕ → BasisReply
@@ -38,28 +39,28 @@ abbrev pub go : Reply → Session → Turn
 go r s = record { reply = r; digits = no_digits; session = s; more = true }
 
 -- a basis is judged by 1 to 3 and 5, as T is answered; "A refused basis keeps the earlier one."
-abbrev pub after_basis : Session → ApproxSignedBasis → WordAnswer → Turn
-after_basis s b (W.Word t) = go (Basis (basis_line b t)) (Ready b)
-after_basis s b (W.Refused n) = go (Refused n) s
+abbrev pub after_basis : Session → ApproxSignedBasis → Result ℕ Refusal → Turn
+after_basis s b (Ok t) = go (Basis (basis_line b t)) (Some b)
+after_basis s b (Err e) = go (Refused e) s
 
 abbrev pub basis_turn : Session → ApproxSignedBasis → Turn
 basis_turn s b = after_basis s b (A.threshold_answer b)
 
 -- "`word` a reading ε digits"; a word is judged by 1 to 3, 5 and 14, as its reading is answered
-abbrev pub word_from : ApproxSignedBasis → ℕ → ReadingAnswer → Turn
-word_from b a (E.Read r) =
+abbrev pub word_from : ApproxSignedBasis → ℕ → Result Reading Refusal → Turn
+word_from b a (Ok r) =
     record {
       reply = Word (record { word = a; reading = r.reading; error = r.error; level_count = b.level_count.0 });
       digits = numbers 16 (shown_digit b a);
-      session = Ready b;
+      session = Some b;
       more = true;
     }
-word_from b a (E.Refused n) = go (Refused n) (Ready b)
+word_from b a (Err e) = go (Refused e) (Some b)
 
 abbrev pub read_word : ApproxSignedBasis → ℕ → Turn
 read_word b a = word_from b a (A.reading_answer b a)
 
 -- "18. A whole word command comes before any accepted basis.": there is none to judge the word by
 abbrev pub word_turn : Session → ℕ → Turn
-word_turn Empty a = go (Refused 18) Empty
-word_turn (Ready b) a = read_word b a
+word_turn None a = go (Refused F.NoBasis) None
+word_turn (Some b) a = read_word b a

@@ -2,15 +2,11 @@
 ghost use Rattle.std.specs.Prelude.{◌≡◌};
 ghost use Rattle.readings_core.specs.Program.{basis_line, go, basis_turn, read_word, word_turn};
 
-use checks::WordAnswer;
-use primus_decompose::{ApproxSignedBasis, ReadingAnswer};
+use check_order::Refusal;
+use primus_decompose::ApproxSignedBasis;
 
 // The basis that was accepted last, if any.
-#[derive(Clone, Copy)]
-pub enum Session {
-    Empty,
-    Ready(ApproxSignedBasis),
-}
+pub type Session = Option<ApproxSignedBasis>;
 
 // `basis` q (0 = native) k base-log L d H T
 #[derive(Clone, Copy)]
@@ -38,7 +34,7 @@ pub enum Reply {
     Nothing,
     Basis(BasisReply),
     Word(WordReply),
-    Refused(u32),
+    Refused(Refusal),
 }
 
 // An answer, of a word its digits besides, lowest first; the session after it, and whether the program goes on.
@@ -84,8 +80,8 @@ pub fn on_basis(session: Session, b: ApproxSignedBasis) -> Turn
     ensures { result ≡ basis_turn session b }
 {
     match b.threshold() {
-        WordAnswer::Word(t) => next(Reply::Basis(basis_line(b, t)), Session::Ready(b)),
-        WordAnswer::Refused(n) => next(Reply::Refused(n), session),
+        Ok(t) => next(Reply::Basis(basis_line(b, t)), Some(b)),
+        Err(refusal) => next(Reply::Refused(refusal), session),
     }
 }
 
@@ -95,7 +91,7 @@ fn read_word(b: ApproxSignedBasis, word: u32) -> Turn
 {
     let levels = b.level_count();
     match b.reading(word) {
-        ReadingAnswer::Read(r) => Turn {
+        Ok(r) => Turn {
             reply: Reply::Word(WordReply {
                 word,
                 reading: r.reading,
@@ -103,19 +99,19 @@ fn read_word(b: ApproxSignedBasis, word: u32) -> Turn
                 level_count: levels.get(),
             }),
             digits: readings_digits::of_word(b, word),
-            session: Session::Ready(b),
+            session: Some(b),
             more: true,
         },
-        ReadingAnswer::Refused(n) => next(Reply::Refused(n), Session::Ready(b)),
+        Err(refusal) => next(Reply::Refused(refusal), Some(b)),
     }
 }
 
-// 18: a word before any accepted basis.
+// A word before any accepted basis is refused.
 pub fn on_word(session: Session, word: u32) -> Turn
     ensures { result ≡ word_turn session word }
 {
     match session {
-        Session::Empty => next(Reply::Refused(18), Session::Empty),
-        Session::Ready(b) => read_word(b, word),
+        None => next(Reply::Refused(Refusal::NoBasis), None),
+        Some(b) => read_word(b, word),
     }
 }

@@ -12,7 +12,7 @@ use lib.IntN.{ℤ, pos, ◌-ℤ◌}
 use lib.ListN.{length, get_or, set}
 use lib.Seq.{get_or-set_same, get_or-set_other, ext_get_or}
 use lib.Pow.{pow-lt, pow_mono}
-use borrow.Author.Tests.{ltb-true, eq-eqb}
+use borrow.Author.Tests.{ltb-true}
 use Rattle.scheme.specs.Numbers.{pick}
 use Rattle.scheme.specs.Basis.{half}
 use Rattle.scheme.specs.Digits.{digit, stored}
@@ -30,8 +30,9 @@ use Rattle.gadget_constants.specs.Word.{decomposer_from}
 use Rattle.gadget_constants.specs.declared.prepared.PreparedBasis.{PreparedBasis}
 use Rattle.gadget_constants.proofs.Constants.{decomposer_ready}
 use Rattle.primus_decompose.specs.Answers.{basis, rows, word_rows, base_word, signed_digit, prepared_by, prepared_answer, WhereReady}
-use Rattle.primus_decompose.specs.declared.error.PreparedBasisAnswer.{PreparedBasisAnswer}
-use Rattle.primus_decompose.specs.declared.error.PreparedBasisAnswer.TheVariants as P
+use Rattle.std.proofs.Common.{Result, Ok, Err}
+use Rattle.check_order.specs.declared.refusal.Refusal.{Refusal}
+use Rattle.check_order.proofs.Answers.{served}
 use Rattle.primus_decompose.specs.declared.primitive.basis.ApproxSignedBasis.{ApproxSignedBasis}
 use Rattle.readings_digits.specs.Digits.{numbers, stepped_digit, shown_digit}
 
@@ -67,19 +68,19 @@ store_next w f j v l e h i k = go (ℕ_discrete i j)
 
 -- ---- the digits of a word that is not refused, by the constants of its basis
 
-module _ (b : ApproxSignedBasis) (a : ℕ) (z : refusal (word_rows b a) ≡ 0) {r : PreparedBasisAnswer} (e : (r ≡ prepared_answer b) × WhereReady r) where
-  made : prepared_answer b ≡ P.Ready (prepared_by b)
-  made = rw (eq-eqb (refusal (rows b)) 0 (passed_part (rows b) _ z)) refl
+module _ (b : ApproxSignedBasis) (a : ℕ) (z : refusal (word_rows b a) ≡ 0) {r : Result PreparedBasis Refusal} (e : r ≡ prepared_answer b) (w : WhereReady r) where
+  made : r ≡ Ok (prepared_by b)
+  made = e ∙ sym (served (rows b) (prepared_by b) (prepared_by b) (sym (passed_part (rows b) _ z)) refl)
 
-  pub no_refusal : {n : ℕ} → r ≡ P.Refused n → ⊥
-  no_refusal {n} f = let g : P.Refused n ≡ P.Ready (prepared_by b) = sym f ∙ e.0 ∙ made in let z : ◌≡◌ {A = ℕ} 0 1 = cc in omega arith
+  pub no_refusal : {n : Refusal} → r ≡ Err n → ⊥
+  no_refusal {n} f = let g : ◌≡◌ {A = Result PreparedBasis Refusal} (Err n) (Ok (prepared_by b)) = sym f ∙ made in cc
 
   -- the constants are those of the basis
   ready : Ready (prepared_by b)
-  ready = subst WhereReady (e.0 ∙ made) e.1
+  ready = subst WhereReady made w
 
-  constants : {p : PreparedBasis} → r ≡ P.Ready p → p ≡ prepared_by b
-  constants {p} f = let g : P.Ready p ≡ P.Ready (prepared_by b) = sym f ∙ e.0 ∙ made in cc
+  constants : {p : PreparedBasis} → r ≡ Ok p → p ≡ prepared_by b
+  constants {p} f = let g : ◌≡◌ {A = Result PreparedBasis Refusal} (Ok p) (Ok (prepared_by b)) = sym f ∙ made in cc
 
   base_word_lem : base_word b ≡ 2 ^ b.log_basis.0
   base_word_lem = mod-eq_of_lt (pow-lt ready.sound.log_most)
@@ -93,7 +94,7 @@ module _ (b : ApproxSignedBasis) (a : ℕ) (z : refusal (word_rows b a) ≡ 0) {
       (pos (stored (basis b).modulus (digit (basis b) a j)) -ℤ pos (size_of b.modulus))) base_word_lem
       ∙ signed-stored (basis b).modulus (half (basis b)) (digit (basis b) a j) (omega (arith, even (basis b) ok, ok.fits)) (digit-range (basis b) ok a j)
 
-  pub shown_digits : {p : PreparedBasis} {d : SignedDecomposer} → r ≡ P.Ready p → d ≡ decomposer_from p a → numbers 16 (stepped_digit b d) ≡ numbers 16 (shown_digit b a)
+  pub shown_digits : {p : PreparedBasis} {d : SignedDecomposer} → r ≡ Ok p → d ≡ decomposer_from p a → numbers 16 (stepped_digit b d) ≡ numbers 16 (shown_digit b a)
   shown_digits {p} {d} f g =
       ap (λ d. numbers 16 (stepped_digit b d)) (g ∙ ap (λ p. decomposer_from p a) (constants f))
       ∙ numbers_ext 16 _ _ (λ j h. at j (ltb j b.level_count.0) refl)

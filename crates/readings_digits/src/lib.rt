@@ -7,7 +7,7 @@ ghost use Rattle.scheme.specs.Checks.{refusal};
 ghost use Rattle.primus_decompose.specs.Answers.{signed_digit, word_rows};
 ghost use Rattle.readings_digits.specs.Digits.{numbers, stepped_digit, shown_digit};
 
-use primus_decompose::{ApproxSignedBasis, PreparedBasisAnswer, SignedDecomposer};
+use primus_decompose::{ApproxSignedBasis, SignedDecomposer};
 
 // The number that a stored digit stands for, or 0 above level L.
 fn shown(b: ApproxSignedBasis, digit: u32, j: usize) -> i64
@@ -23,14 +23,12 @@ fn shown(b: ApproxSignedBasis, digit: u32, j: usize) -> i64
 fn of_steps(b: ApproxSignedBasis, start: SignedDecomposer) -> [i64; 16]
     ensures { result ≡ numbers 16 (stepped_digit b start) }
 {
-    let mut digits = [0i64; 16];
+    let mut digits = [0; 16];
     let mut d = start;
-    let mut j = 0;
-    while j < 16 {
+    for (j, digit) in digits.iter_mut().enumerate() {
         let s = d.step();
-        digits[j] = shown(b, s.digit, j);
+        *digit = shown(b, s.digit, j);
         d = s.next;
-        j += 1;
     }
     digits
 }
@@ -41,7 +39,7 @@ pub fn of_word(b: ApproxSignedBasis, word: u32) -> [i64; 16]
     ensures { result ≡ numbers 16 (shown_digit b word) }
 {
     match b.prepare() {
-        PreparedBasisAnswer::Ready(p) => of_steps(b, p.decomposer(word)),
-        PreparedBasisAnswer::Refused(_) => [0; 16],
+        Ok(p) => of_steps(b, p.decomposer(word)),
+        Err(_) => [0; 16],
     }
 }

@@ -28,19 +28,19 @@ joined_one (ys ∷ rs) xs = ap (λ (zs : List ℕ). ys ++ zs) (joined_one rs xs)
 
 -- ---- one read more
 
--- reads of which none has ended the run, and how many are left
-pub record Reached (m : Reader) (left : ℕ) : Type 0 where
+-- so many reads, of which none has ended the run
+pub record Reached (m : Reader) (done : ℕ) : Type 0 where
   pub reads : List (List ℕ)
-  pub counted : length reads + left ≡ 2 ^ 64 - 1
+  pub counted : length reads ≡ done
   pub fits : (i : ℕ) → i < length reads → length (get_or reads i []) ≤ 64
   pub goes_on : (i : ℕ) → i < length reads → ended_at reads i ≡ false
   pub fed-so : m ≡ fed_all start (joined reads)
 
-pub begin : {m : Reader} → m ≡ start → Reached m (2 ^ 64 - 1)
+pub begin : {m : Reader} → m ≡ start → Reached m 0
 unfolding joined fed_all
-begin e = record { reads = []; counted = omega arith; fits = λ i h. absurd (omega arith); goes_on = λ i h. absurd (omega arith); fed-so = e }
+begin e = record { reads = []; counted = refl; fits = λ i h. absurd (omega arith); goes_on = λ i h. absurd (omega arith); fed-so = e }
 
-module _ {m : Reader} {left : ℕ} (r : Reached m left) {s : Step} (p : Stepped m s) where
+module _ {m : Reader} {done : ℕ} (r : Reached m done) {s : Step} (p : Stepped m s) where
   abbrev more : List (List ℕ)
   more = r.reads ++ p.bytes ∷ []
 
@@ -74,8 +74,8 @@ module _ {m : Reader} {left : ℕ} (r : Reached m left) {s : Step} (p : Stepped 
       ap (λ s. s.reader) p.so ∙ ap (λ m. fed_all m p.bytes) r.fed-so
       ∙ sym (fed-append start (joined r.reads) p.bytes) ∙ ap (fed_all start) (sym (joined_one r.reads p.bytes))
 
-  pub again : 0 < left → s.ended ≡ false → Reached s.reader (left - 1)
-  again h e =
+  pub again : s.ended ≡ false → Reached s.reader (done + 1)
+  again e =
       record {
         reads = more;
         counted = omega (arith, one_longer, r.counted);
@@ -88,7 +88,7 @@ module _ {m : Reader} {left : ℕ} (r : Reached m left) {s : Step} (p : Stepped 
       go i k (yes q) = ap (ended_at more) q ∙ newest ∙ e
       go i k (no q) = earlier i (omega (arith, one_longer))
 
-  pub stop : 0 < left → s.ended ≡ true → {t : Turn} → t ≡ finished s.reader → Ran t
+  pub stop : done < 2 ^ 64 - 1 → s.ended ≡ true → {t : Turn} → t ≡ finished s.reader → Ran t
   stop h e f =
       record {
         reads = more;
@@ -101,8 +101,8 @@ module _ {m : Reader} {left : ℕ} (r : Reached m left) {s : Step} (p : Stepped 
       }
 
 -- no read is left
-pub spent : {m : Reader} {left : ℕ} → Reached m left → left ≤ 0 → {t : Turn} → t ≡ finished m → Ran t
-spent r h f =
+pub spent : {m : Reader} {done : ℕ} → Reached m done → done ≤ 2 ^ 64 - 1 → 2 ^ 64 - 1 ≤ done → {t : Turn} → t ≡ finished m → Ran t
+spent r most h f =
     record {
       reads = r.reads;
       some = omega (arith, r.counted);

@@ -15,13 +15,10 @@ fn read_some(before: Reader, input: &mut impl Read, output: &mut impl Write) -> 
     ensures { Stepped before result }
 {
     let mut bytes = [0u8; 64];
-    let n = match input.read(&mut bytes) {
-        Ok(n) => n,
-        Err(_) => 0,
-    };
+    let n = input.read(&mut bytes).unwrap_or(0);
     let s = readings_steps::feed_all(before, &bytes[..n]);
-    let turns = s.turns;
-    readings_text::print_turns(output, turns, s.count);
+    let turns = &s.turns;
+    readings_text::print_turns(output, &turns[..s.count]);
     s
 }
 
@@ -38,14 +35,12 @@ pub fn run(input: &mut impl Read, output: &mut impl Write) -> Turn
     ensures { Ran result }
 {
     let mut m = Reader::new();
-    let mut reads = u64::MAX;
-    while reads > 0 {
+    for _read in 0..u64::MAX {
         let s = read_some(m, input, output);
         m = s.reader;
         if s.ended {
             return last(m, output);
         }
-        reads -= 1;
     }
     last(m, output)
 }

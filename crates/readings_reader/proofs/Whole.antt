@@ -14,8 +14,8 @@ use borrow.Author.Tests.{le-leb, lt-leb, lt-ltb, eq-eqb, ne_eqb}
 use Rattle.scheme.specs.Numbers.{pick}
 use Rattle.readings_commands.specs.Commands.{operands, over, turn_of}
 use Rattle.readings_reader.specs.Run.{Line, due, lines_within, lines_of, silent, start, settled_by, fed, finished, lines_fed}
-use Rattle.readings_core.specs.declared.command.Session.{Session}
-use Rattle.readings_core.specs.declared.command.Session.TheVariants.{Empty}
+use Rattle.std.proofs.Common.{None}
+use Rattle.readings_core.specs.Program.{Session}
 use Rattle.readings_core.specs.declared.command.Turn.{Turn}
 use Rattle.readings_reader.specs.declared.reader.Reader.{Reader}
 
@@ -212,4 +212,4 @@ all (suc n) s m w xs l = next n (all n) s m w xs l
 
 -- fed byte by byte, from the first byte to the end of the input, the reader says the lines of the input's commands
 pub whole_run : (xs : List ℕ) → lines_fed start xs ≡ lines_of xs
-whole_run xs = all (length xs) Empty start (record { in_session = refl; goes_on = refl; none_begun = refl; room = refl }) xs (omega arith)
+whole_run xs = all (length xs) None start (record { in_session = refl; goes_on = refl; none_begun = refl; room = refl }) xs (omega arith)

@@ -1,10 +1,8 @@
 -- A whole run of the program: its commands one after the other, and the same byte by byte.
-use Rattle.std.specs.Prelude.{Bool, true, false, List, [], ◌∷◌, ◌++◌, ℕ, zero, suc, ◌+◌, leb, ltb, ℤ, length, take, drop, set}
+use Rattle.std.specs.Prelude.{Bool, true, false, List, [], ◌∷◌, ◌++◌, ℕ, zero, suc, ◌+◌, leb, ltb, ℤ, length, take, drop, set, None}
 use Rattle.scheme.specs.Numbers.{pick}
-use Rattle.readings_core.specs.Program.{no_digits}
+use Rattle.readings_core.specs.Program.{Session, no_digits}
 use Rattle.readings_commands.specs.Commands.{operands, over, turn_of}
-use Rattle.readings_core.specs.declared.command.Session.{Session}
-use Rattle.readings_core.specs.declared.command.Session.TheVariants.{Empty}
 use Rattle.readings_core.specs.declared.command.Reply.{Reply}
 use Rattle.readings_core.specs.declared.command.Reply.TheVariants.{Nothing, Basis, Word, Refused}
 use Rattle.readings_core.specs.declared.command.Turn.{Turn}
@@ -38,7 +36,7 @@ lines_within (suc n) s (c ∷ xs) =
 
 -- the lines of a whole input: it has no more commands than bytes
 abbrev pub lines_of : List ℕ → List Line
-lines_of xs = lines_within (length xs) Empty xs
+lines_of xs = lines_within (length xs) None xs
 
 -- ---- byte by byte
 
@@ -48,7 +46,7 @@ silent s more = record { reply = Nothing; digits = no_digits; session = s; more 
 -- before the first byte
 abbrev pub start : Reader
 start =
-    record { turn = silent Empty true; begun = false; command = 0; held = 0 ∷ 0 ∷ 0 ∷ 0 ∷ 0 ∷ 0 ∷ []; count = 0 }
+    record { turn = silent None true; begun = false; command = 0; held = 0 ∷ 0 ∷ 0 ∷ 0 ∷ 0 ∷ 0 ∷ []; count = 0 }
 
 -- the operand bytes with one more, of at most six
 abbrev pub put : List ℕ → ℕ → ℕ → List ℕ

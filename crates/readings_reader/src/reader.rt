@@ -72,7 +72,7 @@ impl Reader {
         ensures { result ≡ start }
     {
         Reader {
-            turn: quiet(Session::Empty, true),
+            turn: quiet(None, true),
             begun: false,
             command: 0,
             held: [0; 6],

@@ -98,14 +98,13 @@ module _ (n : ℕ) (m r : Reader) (xs : List ℕ) (i : ℕ) (h : i < length xs) 
   full_next k t ts f = f ∙ full n t (turns_fed m (take i xs)) (fed r (get_or xs i 0)).turn (omega (arith, counted)) ∙ ap (places n t) turns_next
 
 -- all bytes are fed
-pub step_so : (m r : Reader) (xs : List ℕ) (n : ℕ) (ts : List Turn) (b : Bool) → n ≤ length xs → length xs ≤ n → r ≡ fed_all m (take n xs)
-    → ts ≡ places 64 m.turn (turns_fed m (take n xs)) → b ≡ ended r n
-    → ◌≡◌ {A = Step} (record { reader = r; turns = ts; count = n; ended = b }) (step_of m xs)
-step_so m r xs n ts b h k er et eb =
+pub step_so : (m r : Reader) (xs : List ℕ) (n : ℕ) (ts : List Turn) (b : Bool) → length xs ≤ n → r ≡ fed_all m (take n xs)
+    → ts ≡ places 64 m.turn (turns_fed m (take n xs)) → b ≡ ended r (length xs)
+    → ◌≡◌ {A = Step} (record { reader = r; turns = ts; count = length xs; ended = b }) (step_of m xs)
+step_so m r xs n ts b k er et eb =
     let all : take n xs ≡ xs = take_all n xs k in
-    let count-so : n ≡ length xs = omega arith in
     let reader_so : r ≡ fed_all m xs = er ∙ ap (fed_all m) all in
     let turns-so : ts ≡ places 64 m.turn (turns_fed m xs) = et ∙ ap (λ (ys : List ℕ). places 64 m.turn (turns_fed m ys)) all in
-    ap₂ (λ (r : Reader) (ts : List Turn). record { reader = r; turns = ts; count = n; ended = b }) reader_so turns-so
-    ∙ ap₂ (λ (n : ℕ) (b : Bool). record { reader = fed_all m xs; turns = places 64 m.turn (turns_fed m xs); count = n; ended = b }) count-so
-    (eb ∙ ap₂ ended reader_so count-so)
+    ap₂ (λ (r : Reader) (ts : List Turn). record { reader = r; turns = ts; count = length xs; ended = b }) reader_so turns-so
+    ∙ ap (λ (b : Bool). record { reader = fed_all m xs; turns = places 64 m.turn (turns_fed m xs); count = length xs; ended = b })
+    (eb ∙ ap (λ (r : Reader). ended r (length xs)) reader_so)

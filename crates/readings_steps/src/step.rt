@@ -32,19 +32,16 @@ pub fn feed_all(before: Reader, bytes: &[u8]) -> Step
     let said = before.turn;
     let mut turns = [said; 64];
     let mut m = before;
-    let mut i = 0;
-    while i < bytes.len() {
-        m = m.feed(bytes[i]);
-        let turn = m.turn;
+    for (i, byte) in bytes.iter().enumerate() {
+        m = m.feed(*byte);
         if i < 64 {
-            turns[i] = turn;
+            turns[i] = m.turn;
         }
-        i += 1;
     }
     Step {
         reader: m,
         turns,
-        count: i,
-        ended: has_ended(m, i),
+        count: bytes.len(),
+        ended: has_ended(m, bytes.len()),
     }
 }

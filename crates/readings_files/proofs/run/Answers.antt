@@ -1,13 +1,11 @@
-use Rattle.readings_files.proofs.Runs.{begin, again, stop}
+use Rattle.readings_files.proofs.Runs.{begin, again, stop, spent}
 use Rattle.readings_files.proofs.run.Goals as goal
 
-pub loop-reads-init : goal.loop-reads-init
-loop-reads-init g c = begin c.new-m.ensures
+pub loop-read-init : goal.loop-read-init
+loop-read-init g c = begin c.new-m.ensures
 
 pub returns-then-s : goal.returns-then-s
-returns-then-s g c =
-    stop c.loop-reads.invariant c.read_some-s.ensures c.loop-reads-test.true c.if-s.true c.last.ensures
+returns-then-s g c = stop c.loop-read.invariant c.read_some-s.ensures c.loop-read-test.true c.if-s.true c.last.ensures
 
-pub loop-reads-preserved : goal.loop-reads-preserved
-loop-reads-preserved g c =
-    again c.loop-reads.invariant c.read_some-s.ensures c.loop-reads-test.true c.if-s.false
+pub loop-read-preserved : goal.loop-read-preserved
+loop-read-preserved g c = again c.loop-read.invariant c.read_some-s.ensures c.if-s.false

@@ -1,15 +1,13 @@
-use mathlib.Core.Path.{◌≡◌, refl, ap, ◌∙◌}
-use Prim.Native.Nat.{◌+◌}
-use native.Mathlib.Omega.{arith}
-use lib.ListN.{length, take, set}
+use Rattle.std.proofs.Common.{◌≡◌, ◌+◌, refl, ap, ◌∙◌, arith, length, take}
+use Rattle.std.proofs.Math.ListN.{set}
 use Rattle.readings_steps.specs.Steps.{turns_fed, places}
-use Rattle.readings_steps.proofs.Fed.{fed_none, fed-next, no_turns, length-places, put_next, full_next}
+use Rattle.readings_steps.proofs.Fed.{fed_none, fed-next, no_turns, length-places, put_next, full_next, step_so}
 use Rattle.readings_steps.proofs.step.feed_all.Goals as goal
 use Rattle.readings_steps.proofs.step.feed_all.Goals.{then-i-lt64, else-i-lt64}
 
 pub loop-i-init : goal.loop-i-init
 unfolding turns_fed
-loop-i-init c = (omega arith, refl, fed_none _, no_turns 64 _)
+loop-i-init c = (refl, fed_none _, no_turns 64 _)
 
 pub loop-i-preserved : goal.loop-i-preserved
 loop-i-preserved c =
@@ -20,12 +18,15 @@ loop-i-preserved c =
     let placed : c.if-i-lt64.turns ≡ places 64 a.turn (turns_fed a (take (l.i + 1) c.args.bytes.now)) =
     elim c.if-i-lt64.branch [
       | then-i-lt64 w ↦ w.turns-is ∙ ap (λ r. set l.turns l.i r.turn) c.feed-m.ensures
-          ∙ put_next 64 a l.m c.args.bytes.now l.i h v.2 a.turn l.turns v.3
+          ∙ put_next 64 a l.m c.args.bytes.now l.i h v.1 a.turn l.turns v.2
       | else-i-lt64 w ↦ w.turns-is
-          ∙ full_next 64 a l.m c.args.bytes.now l.i h v.2 w.if-i-lt64.false a.turn l.turns v.3
+          ∙ full_next 64 a l.m c.args.bytes.now l.i h v.1 w.if-i-lt64.false a.turn l.turns v.2
     ] in (
-      omega arith,
       ap length placed ∙ length-places 64 _ _,
-      c.feed-m.ensures ∙ fed-next a l.m c.args.bytes.now l.i h v.2,
+      c.feed-m.ensures ∙ fed-next a l.m c.args.bytes.now l.i h v.1,
       placed,
     )
+
+pub returns : goal.returns
+returns c =
+    step_so _ _ _ c.loop-i.i _ _ c.loop-i-test.false c.loop-i.invariant.1 c.loop-i.invariant.2 c.has_ended.ensures

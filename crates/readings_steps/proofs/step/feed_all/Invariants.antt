@@ -1,11 +1,6 @@
-use mathlib.Core.Path.{◌≡◌}
-use Prim.Native.Nat.{◌≤◌, ◌-◌}
-use lib.ListN.{length, take}
+use Rattle.std.proofs.Common.{◌≡◌, length, take}
 use Rattle.readings_steps.specs.Steps.{fed_all, turns_fed, places}
 use Rattle.readings_steps.proofs.step.feed_all.Given as goal
 
 abbrev pub invariant-loop-i : goal.invariant-loop-i
-invariant-loop-i l = (l.i ≤ length l.bytes) × (length l.turns ≡ 64) × (l.m ≡ fed_all l.initial.m (take l.i l.bytes)) × (l.turns ≡ places 64 l.initial.m.turn (turns_fed l.initial.m (take l.i l.bytes)))
-
-abbrev pub decreases-loop-i : goal.decreases-loop-i
-decreases-loop-i l = length l.bytes - l.i
+invariant-loop-i l = (length l.turns ≡ 64) × (l.m ≡ fed_all l.initial.m (take l.i l.bytes)) × (l.turns ≡ places 64 l.initial.m.turn (turns_fed l.initial.m (take l.i l.bytes)))
