@@ -19,9 +19,6 @@ use Rattle.primus_reduce.specs.declared.modulus.Modulus.{Modulus}
 
 -- ---- constants
 
-pub power_is : (n : ℕ) → n ≤ 32 → (1 * 2 ^ n) % 2 ^ 64 ≡ 2 ^ n
-power_is n h = one_shl 64 n (omega arith)
-
 pub bound_none : (d : ℕ) → d ≡ 0 → 0 ≡ bound_of d
 unfolding bound_of
 bound_none zero e = refl
@@ -53,12 +50,6 @@ pub carry_beyond : (d v : ℕ) → v < 2 ^ 32 → 32 < d → false ≡ eqb (carr
 unfolding carry_in
 carry_beyond zero v h k = absurd (omega arith)
 carry_beyond (suc d) v h k = ap (λ n. eqb (n % 2) 1) (above_none d v h (omega arith))
-
-pub adjust_below : (a T add : ℕ) → a < T → a ≡ adjust_by T add a
-adjust_below a T add h = rw (lt-ltb a T h)
-
-pub adjust_above : (a T add : ℕ) → T ≤ a → (a + add) % 2 ^ 32 ≡ adjust_by T add a
-adjust_above a T add h = rw (le-ltb a T h)
 
 -- ---- T and the other constants
 
@@ -140,14 +131,8 @@ module _ (m : Modulus) (b L : ℕ) (s : Sound 32 (meant m) b L) where
     pub base_of : 2 ^ b ≤ q
     base_of = rw eq s.accepted.fits
 
-    q_most : q ≤ 2 ^ 32
-    q_most = omega (arith, covered_of, pow_mono {i = k} {j = 32} (omega (arith, s.bits-within)))
-
     pub add-fits : 2 ^ k - q < 2 ^ 32
     add-fits = omega (arith, base_of, pow_pos b, pow_mono {i = k} {j = 32} (omega (arith, s.bits-within)))
-
-    pub offset_fits : q - 2 ^ b < 2 ^ 32
-    offset_fits = omega (arith, base_of, pow_pos b, q_most)
 
     pub ready_of : (T x y : ℕ) → T ≡ wrap_at b L (k - L * b) → x ≡ 2 ^ k → y ≡ 2 ^ b
         → Ready (record { modulus = m; log_basis = b; level_count = L; drop_bits = k - L * b; threshold = T; add = x - q; modulus_minus_basis = q - y })

@@ -48,18 +48,3 @@ module _ (p : PreparedBasis) (r : Ready p) (a : ℕ) (s : ValueCarry) (es : s �
       ∙ ap (λ n. pos (a + bound (basis_in p)) -ℤ pos (n + pick (ltb a (threshold (basis_in p))) 0 (size_of p.modulus))) rest_is
       ∙ sym (reading_rest (basis_in p) r.sound.accepted a))
       (ey ∙ ap₂ (λ n h. pos n -ℤ pos h) rest_is bound-is ∙ sym (rounding_rest (basis_in p) r.sound.accepted a))
-
--- how large they are
-pub lost_most : (a T q : ℕ) → q ≤ 2 ^ 32 → pick (ltb a T) 0 q ≤ 2 ^ 32
-lost_most a T q h = go (ltb a T)
-  where
-    go : (b : Bool) → pick b 0 q ≤ 2 ^ 32
-    go true = omega arith
-    go false = h
-
--- the two ways through a signed digit
-pub signed-small : (d h w : ℕ) (x : ℤ) → h ≡ w → d < h / 2 → pos d -ℤ pos 0 ≡ pick (ltb d (w / 2)) (pos d) x
-signed-small d h w x e k = rw (← e, lt-ltb d (h / 2) k) (simp diff (⊖-eq _ _ _ _ (omega arith)))
-
-pub signed_large : (d h w s q : ℕ) → h ≡ w → s ≡ q → h / 2 ≤ d → pos d -ℤ pos s ≡ pick (ltb d (w / 2)) (pos d) (pos d -ℤ pos q)
-signed_large d h w s q e f k = rw (← e, f, le-ltb d (h / 2) k)

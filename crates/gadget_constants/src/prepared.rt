@@ -1,5 +1,5 @@
 // The constants of a basis.
-ghost use Rattle.std.specs.Prelude.{◌≡◌, ◌+◌, ◌-◌, ◌*◌, ◌%◌, ◌^◌, ◌<◌, ◌≤◌, max};
+ghost use Rattle.std.specs.Prelude.{◌≡◌, ◌+◌, ◌-◌, ◌*◌, ◌%◌, ◌^◌, ◌<◌, ◌≤◌};
 ghost use Rattle.scheme.specs.Numbers.{tabulate};
 ghost use Rattle.scheme.specs.Basis.{bound_of};
 ghost use Rattle.scheme.specs.Checks.{refusal, basis_rows};
@@ -9,6 +9,7 @@ ghost use Rattle.gadget_constants.specs.Prepared.{Narrow, wrap_at, Ready, prepar
 use primus_reduce::Modulus;
 
 // A basis with its constants, prepared once for many words: q, base log, L, d, T, 2^k − q and q − B.
+// Stays: no ghost field says `Ready`: `init_value_carry` and `decomposer` take any constants, and an answer's definition names those of any numbers.
 #[derive(Clone, Copy)]
 pub struct PreparedBasis {
     pub modulus: Modulus,
@@ -57,12 +58,6 @@ pub fn error_bound(d: u32) -> u32
     if d == 0 { 0 } else { 1 << (d - 1) }
 }
 
-fn at_least_one(x: u32) -> u64
-    ensures { result ≡ max x 1 }
-{
-    if x == 0 { 1 } else { x as u64 }
-}
-
 // T = P × 2^d + max(H, 1), with P = (B/2 − 1)(B^L − 1)/(B − 1).
 fn wrap_threshold(log: u32, levels: u32, d: u32) -> u32
     requires { Narrow log levels d }
@@ -70,7 +65,7 @@ fn wrap_threshold(log: u32, levels: u32, d: u32) -> u32
 {
     let base = power(log);
     let largest = (base / 2 - 1) * (power(levels * log) - 1) / (base - 1);
-    let rounding = at_least_one(error_bound(d));
+    let rounding = u64::from(error_bound(d).max(1));
     (largest * power(d) + rounding) as u32
 }
 
@@ -98,11 +93,9 @@ pub fn prepare(modulus: Modulus, log: u32, levels: usize) -> PreparedBasis
 pub fn scalars_from(d: u32, log: u32, levels: usize) -> [u32; 16]
     ensures { result ≡ tabulate 16 (scalar_at d log levels) }
 {
-    let mut w = [0u32; 16];
-    let mut j = 0;
-    while j < 16 {
-        w[j] = scalar(d, log, levels, j);
-        j += 1;
+    let mut w = [0; 16];
+    for (j, weight) in w.iter_mut().enumerate() {
+        *weight = scalar(d, log, levels, j);
     }
     w
 }
@@ -115,5 +108,5 @@ fn scalar(d: u32, log: u32, levels: usize, j: usize) -> u32
     if levels <= j {
         return 0;
     }
-    power_word(d as u64 + j as u64 * log as u64)
+    power_word(u64::from(d) + j as u64 * u64::from(log))
 }

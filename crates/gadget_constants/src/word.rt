@@ -46,7 +46,7 @@ fn adjust(a: u32, threshold: u32, add: u32) -> u32
     if a < threshold {
         return a;
     }
-    std::num::wrapping_add_u32(a, add)
+    a.wrapping_add(add)
 }
 
 impl PreparedBasis {
@@ -130,10 +130,8 @@ pub fn write_columns(out: &mut [u32], values: &[u32], p: PreparedBasis)
     ensures { out.new ≡ runs_of (basis_in p) values.now }
 {
     let levels = p.level_count;
-    let mut i = 0;
-    while i < values.len() {
-        let d = p.decomposer(values[i]);
+    for (i, value) in values.iter().enumerate() {
+        let d = p.decomposer(*value);
         gadget_digits::write_column(out, d, levels, values.len(), i);
-        i += 1;
     }
 }

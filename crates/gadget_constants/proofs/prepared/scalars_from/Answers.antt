@@ -5,4 +5,4 @@ use Rattle.gadget_constants.proofs.prepared.scalars_from.Goals as goal
 
 pub returns : goal.returns
 returns c =
-    is-tabulate 16 (scalar_at c.args.d c.args.log c.args.levels) c.loop-j.w c.loop-j.invariant.1 (λ i h. c.loop-j.invariant.2 i (omega arith))
+    is-tabulate 16 (scalar_at c.args.d c.args.log c.args.levels) c.loop-j.weight-items c.loop-j.invariant.0 (λ i h. c.loop-j.invariant.1 i (omega arith))
