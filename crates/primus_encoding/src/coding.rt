@@ -89,6 +89,7 @@ fn replace_words(coding: Coding, moduli: Moduli, values: &mut [u32])
 
 impl RoundedCodec {
     // The moduli of a call that is not refused.
+    #[tactic(auto, using(crate::proofs::Laws::sized_first))]
     fn judge_slice(self, coding: Coding, input: &[u32], held: &[u32]) -> Result<Moduli, Refusal>
         ensures first { code_of result ≡ refusal (slice_rows coding self.plaintext_modulus
             self.ciphertext_modulus input.now held.now) }
@@ -106,6 +107,7 @@ impl RoundedCodec {
     }
 
     // Each word of the input, in its place.
+    #[tactic(auto, using(check_order::proofs::Answers::unwritten))]
     pub(crate) fn code_slice_to(
         self,
         coding: Coding,
@@ -121,6 +123,7 @@ impl RoundedCodec {
     }
 
     // In place: the input is what the output holds.
+    #[tactic(auto, using(check_order::proofs::Answers::unwritten))]
     pub(crate) fn code_slice_assign(self, coding: Coding, values: &mut [u32]) -> Result<(), Refusal>
         ensures { CodesSlice coding self.plaintext_modulus self.ciphertext_modulus
             values.old values.old (code_of result) values.new }

@@ -1,12 +1,5 @@
-use Rattle.std.proofs.lemmas.Result.{err_from_is_err_and}
-use Rattle.check_order.proofs.Answers.{unwritten}
 use Rattle.primus_encoding.proofs.Laws.{slice_ready, slice_done}
 use Rattle.primus_encoding.proofs.rounded.RoundedCodec.code_slice_to.Goals as goal
-
-pub returns-in_err-moduli : goal.returns-in_err-moduli
-returns-in_err-moduli c =
-    let p = err_from_is_err_and c.from_residual.result c.from_residual.ensures.1 in
-    rw (p.1, p.2) (unwritten _ c.in_err-moduli.ensures.first)
 
 pub write_words-requires : goal.write_words-requires
 write_words-requires c = slice_ready c.args.self.plaintext_modulus c.args.self.ciphertext_modulus c.args.input.now c.args.output.now c.args.coding _ c.in_ok-moduli.moduli.modulus c.in_ok-moduli.ensures.first c.in_ok-moduli.ensures.moduli
