@@ -33,6 +33,7 @@ fn encode_word(moduli: Moduli, embedding: PlaintextEmbedding, message: u32) -> u
 }
 
 // The word for x, where the output holds `held`.
+#[tactic(auto, using(crate::proofs::Laws::add_is))]
 fn code_word(coding: Coding, moduli: Moduli, x: u32, held: u32) -> u32
     requires { message_fault coding moduli.t x ≡ false }
     ensures { result ≡ coded_word coding moduli.t moduli.modulus x held }
@@ -134,6 +135,7 @@ impl RoundedCodec {
     }
 
     // One word, as a slice of one.
+    #[tactic(auto, using(crate::proofs::Laws::value_refused, crate::proofs::Laws::value_given))]
     pub(crate) fn code_value(self, coding: Coding, x: u32, held: u32) -> Result<u32, Refusal>
         ensures { result ≡ coded_answer coding self.plaintext_modulus self.ciphertext_modulus x held }
     {
