@@ -1,6 +1,6 @@
 -- Laws of samples.
 -- Assumes nothing.
-use Rattle.std.proofs.Common.{◌≡◌, sym, ap, subst, ◌∙◌, List, ℕ, ◌+◌, ◌-◌, ◌≤◌, ◌<◌, arith, pos, ◌-ℤ◌, length, Result}
+use Rattle.std.proofs.Common.{◌≡◌, sym, ap, ◌∙◌, List, ℕ, ◌+◌, ◌-◌, ◌≤◌, ◌<◌, arith, pos, ◌-ℤ◌, length}
 use lib.IntN.{neg_ℤ, +ℤ_idl}
 use borrow.Author.Tests.{leb-false, ne_eqb}
 use Rattle.scheme.specs.Numbers.{residue}
@@ -11,11 +11,8 @@ use Rattle.scheme.proofs.InPlace.{filled_start, filled_end}
 use Rattle.scheme.proofs.Order.{passed, neither}
 use Rattle.primus_reduce.specs.Ring.{meant, size_of, modulo}
 use Rattle.primus_reduce.specs.declared.modulus.Modulus.{Modulus}
-use Rattle.check_order.specs.declared.refusal.Refusal.{Refusal}
-use Rattle.primus_lattice.specs.declared.dimension.LweDimension.{LweDimension}
-use Rattle.lwe_tag.specs.declared.LweTag.{LweTag}
 use Rattle.lwe_samples.specs.Answers.{body_fails}
-use Rattle.lwe_samples.specs.Answers.{extract_rows, Extracts}
+use Rattle.lwe_samples.specs.Answers.{extract_rows}
 
 -- ---- words
 
@@ -27,14 +24,6 @@ pub ruleset sample_words = (less_is, extracted_wrapped, extracted_rest, extracte
 
 -- before the first word of a sample, and after the last
 pub ruleset sampling = (filled_start, filled_end, extracted-length)
-
--- ---- the promise, of other names of modulus and dimension
-
-pub extracts_of : {m k : Modulus} → m ≡ k → {n o : LweDimension} → n ≡ o → {x before after : List ℕ} {i : ℕ} {answer : Result LweTag Refusal}
-    → Extracts m n x i before answer after → Extracts k o x i before answer after
-extracts_of {m} {k} em {n} {o} en {x} {before} {after} {i} {answer} h =
-    subst (λ (z : LweDimension). Extracts k z x i before answer after) en
-    (subst (λ (z : Modulus). Extracts z n x i before answer after) em h)
 
 -- ---- what the checks of a sample leave
 

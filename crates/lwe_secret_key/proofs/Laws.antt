@@ -1,22 +1,20 @@
--- Laws of the steps: products, bodies, phases, and a row of a run.
+-- Laws of the steps: products, bodies and phases.
 -- Assumes nothing.
-use mathlib.Core.Path.{◌≡◌, refl, sym, ap, ap₂, ◌∙◌}
+use mathlib.Core.Path.{◌≡◌, refl, sym, ap, ◌∙◌}
 use mathlib.Core.Bool.{Bool, true, false}
 use mathlib.Core.List.{List, [], ◌∷◌, ◌++◌}
-use Prim.Native.Nat.{ℕ, ◌+◌, ◌*◌, ◌-◌, ◌≤◌, ◌<◌}
+use Prim.Native.Nat.{ℕ, ◌+◌, ◌<◌}
 use native.Mathlib.Nat.{mod-eq_of_lt}
 use native.Mathlib.Numerals.{add-one}
 use native.Mathlib.Omega.{arith}
 use lib.Dec.{eqb}
 use lib.IntN.{ℤ, pos, ◌+ℤ◌, ◌-ℤ◌, ◌*ℤ◌, +ℤ_idr, *ℤ-zero}
-use lib.ListN.{length, get_or, take, drop, length-drop, get_or-eq_default}
-use lib.Seq.{length-take-le}
+use lib.ListN.{length, get_or, get_or-eq_default}
 use borrow.Author.Tests.{ne_eqb, eqb-false}
 use Rattle.scheme.specs.Numbers.{pick, residue, Cong, sum_to}
 use Rattle.scheme.specs.Lwe.{Key, Words, Signed, secret_of, key_length, inner, body_of, encrypted, phase_of}
 use Rattle.scheme.proofs.Residue.{cong_refl, cong_of_eq, cong_trans, cong_add, residue_cong}
 use Rattle.scheme.proofs.Lwe.{cong_sub, stands}
-use Rattle.lwe_secret_key.specs.Runs.{replaced}
 use Rattle.primus_reduce.specs.Ring.{modulo}
 
 -- the word that a reduction gives stands for its number
@@ -59,21 +57,6 @@ phase_is q n x key sum h k l es er =
     er
     ∙ rw (ne_eqb q 0 (λ f. omega arith))
     (residue_cong h (cong_sub (cong_refl q (pos (get_or x n 0))) (cong_trans (modulo_stands h _ es) (cong_of_eq q (inner_body n x key l k)))))
-
--- ---- a row of a run
-
-pub row_is : (q n i : ℕ) (out masks : List ℕ) (s : ℕ → ℤ) (e : ℤ) (p : ℕ) → i * n + n ≤ length masks → {row : List ℕ}
-    → row ≡ encrypted q (length (take (i * n + n - i * n) (drop (i * n) masks))) (take (i * n + n - i * n) (drop (i * n) masks)) s e (pos p)
-    → replaced out (i * (n + 1)) (i * (n + 1) + (n + 1) - i * (n + 1)) row
-    ≡ replaced out (i * (n + 1)) (n + 1) (encrypted q n (take n (drop (i * n) masks)) s e (pos p))
-row_is q n i out masks s e p h {row} f =
-    let width : i * n + n - i * n ≡ n = omega arith in
-    let size : i * (n + 1) + (n + 1) - i * (n + 1) ≡ n + 1 = omega arith in
-    let part : length (take n (drop (i * n) masks)) ≡ n = length-take-le n (drop (i * n) masks) (omega (arith, length-drop (i * n) masks)) in
-    ap₂ (λ (m : ℕ) (x : List ℕ). replaced out (i * (n + 1)) m x) size
-    (f
-    ∙ ap (λ m. encrypted q (length (take m (drop (i * n) masks))) (take m (drop (i * n) masks)) s e (pos p)) width
-    ∙ ap (λ m. encrypted q m (take n (drop (i * n) masks)) s e (pos p)) part)
 
 -- what a run lacks counts as 0
 pub no_number : (q : ℕ) → 0 ≡ modulo q (pos 0)

@@ -6,11 +6,10 @@
 use mathlib.Core.Path.{◌≡◌, ap, ◌∙◌}
 use mathlib.Core.List.{List}
 use Prim.Native.Nat.{ℕ, ◌+◌, ◌*◌, ◌≤◌, ◌<◌}
-use native.Mathlib.Omega.{arith}
 use lib.IntN.{ℤ, pos}
 use lib.ListN.{length, take, drop}
 use Rattle.scheme.specs.Lwe.{encrypted, encrypted_rows}
-use Rattle.scheme.proofs.Rows.{row_within, Filling, filling_start, filling_next, filling_end}
+use Rattle.scheme.proofs.Rows.{Filling, filling_start, filling_next, filling_end}
 use Rattle.scheme.proofs.Public.{encrypted-row}
 use Rattle.lwe_secret_key.specs.Runs.{replaced, Run}
 
@@ -21,9 +20,6 @@ Rows q n masks s e p c d now i = Filling (λ i. encrypted q n (take n (drop (i *
 module _ (q n : ℕ) (masks : List ℕ) (s e p : ℕ → ℤ) (c : ℕ) (d : List ℕ) (run : Run q n (length masks) c (length d)) where
   pub rows_start : Rows q n masks s e p c d d 0
   rows_start = filling_start _ (n + 1) c d run.rooms (λ i h. encrypted-row q n c i masks s (e i) (p i) run.each h)
-
-  pub rows_mask : (i : ℕ) → i < c → i * n + n ≤ length masks
-  rows_mask i h = omega (arith, row_within n c i h, run.each)
 
 pub rows_more : (q n : ℕ) (masks : List ℕ) (s e p : ℕ → ℤ) (c : ℕ) (d now : List ℕ) (i : ℕ) → Rows q n masks s e p c d now i → i < c → (w : ℕ) → pos w ≡ p i
     → (next : List ℕ) → next ≡ replaced now (i * (n + 1)) (n + 1) (encrypted q n (take n (drop (i * n) masks)) s (e i) (pos w))

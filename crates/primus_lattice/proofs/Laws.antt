@@ -1,17 +1,15 @@
 -- Laws of the leaves and of the calls.
 -- Assumes nothing.
-use Rattle.std.proofs.Common.{◌≡◌, ℕ, ◌+◌, false, List, length, Result, sym, ◌∙◌, subst}
+use Rattle.std.proofs.Common.{◌≡◌, ℕ, ◌+◌, false, List, length, sym, ◌∙◌}
 use Rattle.scheme.specs.Tally.{add_tally, tally_fails}
 use Rattle.scheme.specs.Checks.{refusal, length_fails, words_fail}
 use Rattle.scheme.proofs.Checks.{length_ok}
 use Rattle.scheme.proofs.Order.{passed, neither}
 use Rattle.primus_reduce.specs.Ring.{size_of}
 use Rattle.primus_reduce.specs.declared.modulus.Modulus.{Modulus}
-use Rattle.primus_lattice.specs.declared.dimension.LweDimension.{LweDimension}
 use Rattle.lwe_tag.specs.declared.LweTag.{LweTag}
-use Rattle.check_order.specs.declared.refusal.Refusal.{Refusal}
 use Rattle.lwe_tag.specs.Answers.{cap, tally_of}
-use Rattle.primus_lattice.specs.Answers.{add_rows, Adds}
+use Rattle.primus_lattice.specs.Answers.{add_rows}
 
 -- ---- words
 
@@ -36,10 +34,3 @@ addable m n x g y h e =
       second = words.1;
       sums = (neither (tally_fails cap (tally_of h)) (tally_fails cap (add_tally (tally_of g) (tally_of h))) given.1).1;
     }
-
--- the promises, of other names of modulus and dimension
-pub adds_of : {m k : Modulus} → m ≡ k → {n o : LweDimension} → n ≡ o → {x y after : List ℕ} {g h : LweTag} {answer : Result LweTag Refusal}
-    → Adds m n x g y h answer after → Adds k o x g y h answer after
-adds_of {m} {k} em {n} {o} en {x} {y} {after} {g} {h} {answer} p =
-    subst (λ (z : LweDimension). Adds k z x g y h answer after) en
-    (subst (λ (z : Modulus). Adds z n x g y h answer after) em p)
