@@ -4,21 +4,23 @@ use mathlib.Core.Path.{◌≡◌, subst}
 use mathlib.Core.List.{List}
 use Prim.Native.Nat.{ℕ}
 use lib.IntN.{ℤ}
+use Rattle.std.specs.Prelude.{Result}
 use Rattle.primus_encoding.specs.declared.PlaintextEmbedding.{PlaintextEmbedding}
 use Rattle.lwe_parameters.specs.declared.parameter.LweEncryptionParameters.{LweEncryptionParameters}
 use Rattle.lwe_parameters.specs.declared.parameter.LweParameters.{LweParameters}
 use Rattle.lwe_parameters.specs.declared.parameter.LwePhaseParameters.{LwePhaseParameters}
 use Rattle.lwe_parameters.specs.declared.parameter.LweDecryptionParameters.{LweDecryptionParameters}
-use Rattle.lwe_tag.specs.declared.LweAnswer.{LweAnswer}
+use Rattle.check_order.specs.declared.refusal.Refusal.{Refusal}
+use Rattle.lwe_tag.specs.declared.LweTag.{LweTag}
 use Rattle.primus_lwe_packed.specs.Answers.{EncryptsPacked, EncryptsPackedMessages, TakesPackedPhases, DecryptsPacked}
 
-pub encrypts_packed_of : {P Q : LweEncryptionParameters} → P ≡ Q → {s a : List ℕ} {es : List ℤ} {ps before after : List ℕ} {r : LweAnswer}
+pub encrypts_packed_of : {P Q : LweEncryptionParameters} → P ≡ Q → {s a : List ℕ} {es : List ℤ} {ps before after : List ℕ} {r : Result LweTag Refusal}
     → EncryptsPacked P s a es ps before r after → EncryptsPacked Q s a es ps before r after
 encrypts_packed_of e {s} {a} {es} {ps} {before} {after} {r} h =
     subst (λ (z : LweEncryptionParameters). EncryptsPacked z s a es ps before r after) e h
 
 pub encrypts_packed_messages_of : {P Q : LweParameters} → P ≡ Q → {g h : PlaintextEmbedding} → g ≡ h
-    → {s a : List ℕ} {es : List ℤ} {xs before after : List ℕ} {r : LweAnswer}
+    → {s a : List ℕ} {es : List ℤ} {xs before after : List ℕ} {r : Result LweTag Refusal}
     → EncryptsPackedMessages P g s a es xs before r after → EncryptsPackedMessages Q h s a es xs before r after
 encrypts_packed_messages_of {P} {Q} e {g} {h} f {s} {a} {es} {xs} {before} {after} {r} w =
     subst (λ (z : PlaintextEmbedding). EncryptsPackedMessages Q z s a es xs before r after) f

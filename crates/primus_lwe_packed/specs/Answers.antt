@@ -1,5 +1,5 @@
 -- What each call promises.
-use Rattle.std.specs.Prelude.{List, ℕ, ◌-◌, ℤ, length}
+use Rattle.std.specs.Prelude.{List, ℕ, ◌-◌, ℤ, length, Result}
 use Rattle.scheme.specs.Numbers.{tabulate}
 use Rattle.scheme.specs.Lwe.{words, signed, packed, packed_phase}
 use Rattle.scheme.specs.Codec.{decode}
@@ -7,7 +7,8 @@ use Rattle.scheme.specs.Tally.{Packed}
 use Rattle.scheme.specs.Checks.{Writes}
 use Rattle.primus_reduce.specs.Ring.{size_of}
 use Rattle.primus_encoding.specs.declared.PlaintextEmbedding.{PlaintextEmbedding}
-use Rattle.lwe_tag.specs.declared.LweAnswer.{LweAnswer}
+use Rattle.check_order.specs.declared.refusal.Refusal.{Refusal}
+use Rattle.lwe_tag.specs.declared.LweTag.{LweTag}
 use Rattle.lwe_tag.specs.Answers.{tag_from, WritesTagged}
 use Rattle.lwe_parameters.specs.declared.parameter.LweEncryptionParameters.{LweEncryptionParameters}
 use Rattle.lwe_parameters.specs.declared.parameter.LweParameters.{LweParameters}
@@ -20,7 +21,7 @@ use Rattle.primus_lwe.specs.Answers.{encodings}
 
 -- "Packed: count c from 0 to n, n masks, then c bodies"
 pub record EncryptsPacked (P : LweEncryptionParameters) (s a : List ℕ) (es : List ℤ) (ps before : List ℕ)
-    (answer : LweAnswer) (after : List ℕ) : Type 0 where
+    (answer : Result LweTag Refusal) (after : List ℕ) : Type 0 where
   pub writes :
       WritesTagged (packed_rows P s a es ps (length before)) (tag_from Packed)
       (packed (size_of P.modulus) P.dimension.0 (length ps) a (words s) (signed es) (words ps))
@@ -28,7 +29,7 @@ pub record EncryptsPacked (P : LweEncryptionParameters) (s a : List ℕ) (es : L
 
 -- each body holds the plaintext of a message
 pub record EncryptsPackedMessages (P : LweParameters) (g : PlaintextEmbedding) (s a : List ℕ) (es : List ℤ)
-    (xs before : List ℕ) (answer : LweAnswer) (after : List ℕ) : Type 0 where
+    (xs before : List ℕ) (answer : Result LweTag Refusal) (after : List ℕ) : Type 0 where
   pub writes :
       WritesTagged (packed_message_rows P s a es xs (length before)) (tag_from Packed)
       (packed (size_of P.modulus) P.dimension.0 (length xs) a (words s) (signed es) (encodings g P xs))

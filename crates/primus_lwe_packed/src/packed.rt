@@ -1,10 +1,12 @@
 // Packed plaintexts and phases. Body i uses the mask rotated right by i, its first i words negated.
+ghost use Rattle.check_order.specs.Answer.{code_of};
 ghost use Rattle.primus_lwe_packed.specs.Answers.{EncryptsPacked, TakesPackedPhases};
 
+use check_order::Refusal;
 use lwe_packed_refusals::{packed_phase_refusal, packed_refusal};
 use lwe_packing::Packing;
 use lwe_parameters::{LweEncryptionParameters, LwePhaseParameters};
-use lwe_tag::{LweAnswer, LweTag};
+use lwe_tag::LweTag;
 
 // n mask words, then a body for each plaintext; no tally. Refuses by 2, 6, 9, 10, 11, 12, 13, 14, 15.
 pub fn encrypt_encoded_packed(
@@ -14,25 +16,22 @@ pub fn encrypt_encoded_packed(
     errors: &[i32],
     plaintexts: &[u32],
     out: &mut [u32],
-) -> LweAnswer
+) -> Result<LweTag, Refusal>
     ensures { EncryptsPacked params secret.now mask.now errors.now
         plaintexts.now out.old result out.new }
 {
-    let r = packed_refusal(params, secret, mask, errors, plaintexts, out.len());
-    if r != 0 {
-        return LweAnswer::Refused(r);
-    }
-    let modulus = params.modulus;
+    packed_refusal(params, secret, mask, errors, plaintexts, out.len())?;
+    let packing = Packing::Plaintexts;
     lwe_packing::write_packed(
         out,
-        Packing::Plaintexts,
+        packing,
         mask,
         secret,
         errors,
         plaintexts,
-        modulus,
+        params.modulus,
     );
-    LweAnswer::Written(LweTag::none())
+    Ok(LweTag::none())
 }
 
 // The phase of each body. Refuses by 2, 6, 9, 10, 11, 14.
@@ -41,15 +40,11 @@ pub fn decrypt_phase_packed(
     secret: &[u32],
     input: &[u32],
     out: &mut [u32],
-) -> u32
-    ensures { TakesPackedPhases params secret.now input.now out.old result
-        out.new }
+) -> Result<(), Refusal>
+    ensures { TakesPackedPhases params secret.now input.now out.old
+        (code_of result) out.new }
 {
-    let r = packed_phase_refusal(params, secret, input, out.len());
-    if r != 0 {
-        return r;
-    }
-    let modulus = params.modulus;
-    lwe_packing::phases(out, input, secret, modulus);
-    0
+    packed_phase_refusal(params, secret, input, out.len())?;
+    lwe_packing::phases(out, input, secret, params.modulus);
+    Ok(())
 }
