@@ -1,5 +1,5 @@
 -- What each call is judged by, and what it promises.
-use Rattle.std.specs.Prelude.{List, [], ◌∷◌, ◌++◌, ℕ, ◌+◌, ◌*◌, ℤ, pos, length}
+use Rattle.std.specs.Prelude.{List, [], ◌∷◌, ◌++◌, ℕ, ◌+◌, ◌*◌, ℤ, pos, length, Result}
 use Rattle.scheme.specs.Lwe.{Key, secret_of, key_length, signed, public_key, public_encrypted}
 use Rattle.scheme.specs.Checks.{Check, row, Writes, length_fails, word_fails, words_fail, key_fails}
 use Rattle.scheme.specs.Checks.{errors_fail, coefficients_fail, message_fails}
@@ -9,7 +9,8 @@ use Rattle.lwe_parameters.specs.declared.parameter.LweEncryptionParameters.{LweE
 use Rattle.lwe_parameters.specs.declared.parameter.LweParameters.{LweParameters}
 use Rattle.lwe_parameters.specs.Answers.{encryption_parameters_rows, parameters_rows}
 use Rattle.primus_lwe.specs.Answers.{encoded}
-use Rattle.lwe_tag.specs.declared.LweAnswer.{LweAnswer}
+use Rattle.check_order.specs.declared.refusal.Refusal.{Refusal}
+use Rattle.lwe_tag.specs.declared.LweTag.{LweTag}
 use Rattle.lwe_tag.specs.Answers.{tag_from, WritesTagged}
 use Rattle.scheme.specs.Tally.{PublicKey}
 
@@ -55,7 +56,7 @@ public_rows P key es rs p room =
 
 -- "starts from n + 1 errors, adds p to the body, then adds or subtracts row i by a lent coefficient rᵢ"
 pub record EncryptsPublic (P : LweEncryptionParameters) (key : List ℕ) (es rs : List ℤ) (p : ℕ)
-    (before : List ℕ) (answer : LweAnswer) (after : List ℕ) : Type 0 where
+    (before : List ℕ) (answer : Result LweTag Refusal) (after : List ℕ) : Type 0 where
   pub writes :
       WritesTagged (public_rows P key es rs p (length before)) (tag_from PublicKey)
       (public_encrypted (size_of P.modulus) P.dimension.0 key (signed es) (pos p) (signed rs)) before answer after
@@ -70,7 +71,7 @@ public_message_rows P key es rs x room =
 
 -- as above, of the plaintext p of x
 pub record EncryptsPublicMessage (P : LweParameters) (g : PlaintextEmbedding) (key : List ℕ) (es rs : List ℤ) (x : ℕ)
-    (before : List ℕ) (answer : LweAnswer) (after : List ℕ) : Type 0 where
+    (before : List ℕ) (answer : Result LweTag Refusal) (after : List ℕ) : Type 0 where
   pub writes :
       WritesTagged (public_message_rows P key es rs x (length before)) (tag_from PublicKey)
       (public_encrypted (size_of P.modulus) P.dimension.0 key (signed es) (encoded g P x) (signed rs))

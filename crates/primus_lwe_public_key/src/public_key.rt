@@ -1,16 +1,16 @@
 // The public key: n encryptions of 0, one after the other. Encryption adds and subtracts its rows.
 ghost use Rattle.std.specs.Prelude.{◌≡◌, ◌||◌, ◌+◌, ◌*◌, length};
-ghost use Rattle.scheme.specs.Lwe.{Words, Signed};
 ghost use Rattle.scheme.specs.Checks.{refusal, length_fails, word_fails, words_fail, errors_fail, coefficients_fail};
 ghost use Rattle.primus_reduce.specs.Ring.{size_of};
+ghost use Rattle.check_order.specs.Answer.{code_of};
 ghost use Rattle.lwe_secret_key.specs.Key.{key_of};
 ghost use Rattle.primus_lwe_public_key.specs.Answers.{generate_rows, GeneratesPublicKey};
 ghost use Rattle.primus_lwe_public_key.specs.Answers.{public_rows, EncryptsPublic};
 ghost use Rattle.primus_lwe_public_key.specs.Answers.{public_message_rows, EncryptsPublicMessage};
 
-use check_order::Values;
-use lwe_secret_key::{KeyForm, key_differs, key_or_words_refused};
-use lwe_tag::{LweAnswer, LweTag};
+use check_order::{Refusal, Values};
+use lwe_secret_key::LweSecretKeyRef;
+use lwe_tag::LweTag;
 use primus_encoding::{PlaintextEmbedding, encode_or_zero};
 use primus_lattice::LweDimension;
 use primus_lwe::{LweEncryptionParameters, LweParameters};
@@ -38,53 +38,24 @@ fn masks_or_errors_differ(masks: usize, errors: usize, dimension: LweDimension) 
 
 fn generate_refusal(
     params: LweEncryptionParameters,
-    form: KeyForm,
-    words: &[u32],
-    signed: &[i32],
+    secret: LweSecretKeyRef,
     masks: &[u32],
     errors: &[i32],
     room: usize,
-) -> u32
-    ensures { result ≡ refusal (generate_rows params (key_of form words.now signed.now)
+) -> Result<(), Refusal>
+    ensures { code_of result ≡ refusal (generate_rows params (key_of secret.entry)
         masks.now errors.now room) }
 {
-    let modulus = params.modulus;
     let dimension = params.dimension;
     let mut s = params.sizes();
-    s.key = key_differs(form, words, signed, dimension);
+    s.key = secret.differs(dimension);
     s.output = rows_differ(room, dimension);
     s.lent = masks_or_errors_differ(masks.len(), errors.len(), dimension);
-    let r = s.first();
-    if r != 0 {
-        return r;
-    }
+    s.judge()?;
     let mut v = Values::NONE;
-    v.word = key_or_words_refused(form, modulus, words, signed, masks);
+    v.word = secret.refused_with(params.modulus, masks);
     v.error = checks::errors_refused(params.error_limit, errors);
-    v.first()
-}
-
-// A public key from a secret key of either form.
-fn generate_under(
-    params: LweEncryptionParameters,
-    form: KeyForm,
-    words: &[u32],
-    signed: &[i32],
-    masks: &[u32],
-    errors: &[i32],
-    out: &mut [u32],
-) -> u32
-    ensures { GeneratesPublicKey params (key_of form words.now signed.now)
-        masks.now errors.now out.old result out.new }
-{
-    let r = generate_refusal(params, form, words, signed, masks, errors, out.len());
-    if r != 0 {
-        return r;
-    }
-    let n = params.dimension.get();
-    let modulus = params.modulus;
-    lwe_public_rows::write_zeros(out, form, words, signed, masks, n, errors, modulus);
-    0
+    v.judge()
 }
 
 // 12: there are not n + 1 errors, or not n coefficients.
@@ -116,24 +87,20 @@ fn public_refusal(
     coefficients: &[i32],
     plaintext: u32,
     room: usize,
-) -> u32
-    ensures { result ≡ refusal (public_rows params key.now errors.now
+) -> Result<(), Refusal>
+    ensures { code_of result ≡ refusal (public_rows params key.now errors.now
         coefficients.now plaintext room) }
 {
-    let modulus = params.modulus;
     let dimension = params.dimension;
     let mut s = params.sizes();
     s.key = rows_differ(key.len(), dimension);
     s.output = dimension.ciphertext_differs(room);
     s.lent = lent_differs(errors.len(), coefficients.len(), dimension);
-    let r = s.first();
-    if r != 0 {
-        return r;
-    }
+    s.judge()?;
     let mut v = Values::NONE;
-    v.word = word_refused(modulus, key, plaintext);
+    v.word = word_refused(params.modulus, key, plaintext);
     v.error = lent_refused(params.error_limit, errors, coefficients);
-    v.first()
+    v.judge()
 }
 
 fn public_message_refusal(
@@ -143,54 +110,39 @@ fn public_message_refusal(
     coefficients: &[i32],
     message: u32,
     room: usize,
-) -> u32
-    ensures { result ≡ refusal (public_message_rows params key.now errors.now
+) -> Result<(), Refusal>
+    ensures { code_of result ≡ refusal (public_message_rows params key.now errors.now
         coefficients.now message room) }
 {
-    let modulus = params.modulus;
     let dimension = params.dimension;
     let mut s = params.sizes();
     s.key = rows_differ(key.len(), dimension);
     s.output = dimension.ciphertext_differs(room);
     s.lent = lent_differs(errors.len(), coefficients.len(), dimension);
-    let r = s.first();
-    if r != 0 {
-        return r;
-    }
+    s.judge()?;
     let mut v = Values::NONE;
-    v.word = checks::words_refused(modulus, key);
+    v.word = checks::words_refused(params.modulus, key);
     v.error = lent_refused(params.error_limit, errors, coefficients);
     v.message = checks::message_refused(params.plaintext_modulus, message);
-    v.first()
+    v.judge()
 }
 
 impl LwePublicKey {
     // n encryptions of 0 in out, from n masks and n errors. Refuses by 2, 6, 9, 11, 12, 13, 14, 15.
     pub fn generate(
         params: LweEncryptionParameters,
-        secret: &[u32],
+        secret: LweSecretKeyRef,
         masks: &[u32],
         errors: &[i32],
         out: &mut [u32],
-    ) -> u32
-        ensures { GeneratesPublicKey params (Words secret.now) masks.now
-            errors.now out.old result out.new }
+    ) -> Result<(), Refusal>
+        ensures { GeneratesPublicKey params (key_of secret.entry) masks.now
+            errors.now out.old (code_of result) out.new }
     {
-        generate_under(params, KeyForm::Words, secret, &[], masks, errors, out)
-    }
-
-    // generate from a signed key.
-    pub fn generate_signed(
-        params: LweEncryptionParameters,
-        secret: &[i32],
-        masks: &[u32],
-        errors: &[i32],
-        out: &mut [u32],
-    ) -> u32
-        ensures { GeneratesPublicKey params (Signed secret.now) masks.now
-            errors.now out.old result out.new }
-    {
-        generate_under(params, KeyForm::Signed, &[], secret, masks, errors, out)
+        generate_refusal(params, secret, masks, errors, out.len())?;
+        let n = params.dimension.get();
+        lwe_public_rows::write_zeros(out, secret, masks, n, errors, params.modulus);
+        Ok(())
     }
 
     // An encryption of p from n + 1 errors and n coefficients; no tally. Refuses by 2, 6, 9, 11, 12, 13, 14, 15.
@@ -201,17 +153,14 @@ impl LwePublicKey {
         coefficients: &[i32],
         plaintext: u32,
         out: &mut [u32],
-    ) -> LweAnswer
+    ) -> Result<LweTag, Refusal>
         ensures { EncryptsPublic params key.now errors.now coefficients.now
             plaintext out.old result out.new }
     {
-        let r = public_refusal(params, key, errors, coefficients, plaintext, out.len());
-        if r != 0 {
-            return LweAnswer::Refused(r);
-        }
+        public_refusal(params, key, errors, coefficients, plaintext, out.len())?;
         let modulus = params.modulus;
         lwe_public_rows::write_public(out, key, errors, coefficients, plaintext, modulus);
-        LweAnswer::Written(LweTag::none())
+        Ok(LweTag::none())
     }
 
     // An encryption of encode(m); no tally. Refuses by 2, 6, 7, 8, 9, 11, 12, 13, 14, 15, 16.
@@ -223,18 +172,14 @@ impl LwePublicKey {
         coefficients: &[i32],
         message: u32,
         out: &mut [u32],
-    ) -> LweAnswer
+    ) -> Result<LweTag, Refusal>
         ensures { EncryptsPublicMessage params embedding key.now errors.now
             coefficients.now message out.old result out.new }
     {
-        let r = public_message_refusal(params, key, errors, coefficients, message, out.len());
-        if r != 0 {
-            return LweAnswer::Refused(r);
-        }
+        public_message_refusal(params, key, errors, coefficients, message, out.len())?;
         let modulus = params.modulus;
-        let t = params.plaintext_modulus;
-        let plaintext = encode_or_zero(t, modulus, message, embedding);
+        let plaintext = encode_or_zero(params.plaintext_modulus, modulus, message, embedding);
         lwe_public_rows::write_public(out, key, errors, coefficients, plaintext, modulus);
-        LweAnswer::Written(LweTag::none())
+        Ok(LweTag::none())
     }
 }

@@ -1,18 +1,15 @@
-use mathlib.Core.List.{List}
-use borrow.Author.Rules.{rules}
-use Rattle.scheme.specs.Checks.{Check}
-use Rattle.scheme.proofs.Order.{Sized, early, late}
+use Rattle.std.proofs.Common.{rules, arith, ◌≡◌}
+use Rattle.std.proofs.lemmas.Grind.{common_steps}
+use Rattle.scheme.specs.Checks.{refusal}
+use Rattle.check_order.specs.Answer.{number_of}
+use Rattle.check_order.proofs.Answers.{first_size, first_value}
 use Rattle.primus_lwe_public_key.specs.Answers.{public_message_rows}
 use Rattle.primus_lwe_public_key.proofs.public_key.public_message_refusal.Goals as goal
 
-pub returns-then-r-ne0 : goal.returns-then-r-ne0
-returns-then-r-ne0 c =
-    let rows : List Check = public_message_rows c.args.params c.args.key.now c.args.errors.now c.args.coefficients.now c.args.message c.args.room in
-    let sized : Sized rows c.first-r.result = c.first-r.ensures rows (record { basis = search rules; parameters = search rules; lengths = search rules }) in
-    early _ sized c.if-r-ne0.true
+pub returns-in_err-judge : goal.returns-in_err-judge
+returns-in_err-judge c =
+    let told : number_of c.in_err-judge.field-0.0 ≡ refusal (public_message_rows c.args.params c.args.key.now c.args.errors.now c.args.coefficients.now c.args.message c.args.room) = first_size _ _ _ c.in_err-judge.ensures (search rules) in
+    grind (arith, common_steps)
 
 pub returns : goal.returns
-returns c =
-    let rows : List Check = public_message_rows c.args.params c.args.key.now c.args.errors.now c.args.coefficients.now c.args.message c.args.room in
-    let sized : Sized rows c.first-r.result = c.first-r.ensures rows (record { basis = search rules; parameters = search rules; lengths = search rules }) in
-    late _ sized c.if-r-ne0.false (c.first.ensures rows (search rules))
+returns c = first_value (public_message_rows c.args.params c.args.key.now c.args.errors.now c.args.coefficients.now c.args.message c.args.room) _ _ _ c.in_ok-judge.ensures (search rules) c.judge-2.ensures (search rules)
