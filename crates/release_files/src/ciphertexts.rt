@@ -1,146 +1,95 @@
 // Ciphertexts, opened and compared with what they open to.
-use crate::files;
-use crate::files::DIFFERS;
-use checks::WordAnswer;
-use primus_lattice::{LweDimension, LweDimensionAnswer};
-use primus_lwe::{LweDecryptionParameters, decrypt_message_signed};
+use crate::files::{Fault, Folder, agrees};
+use check_order::Refusal;
+use primus_lattice::LweDimension;
+use primus_lwe::{LweDecryptionParameters, LweSecretKeyRef, decrypt_message};
 use primus_lwe_batch::decrypt_message_batch_to;
 use primus_lwe_packed::decrypt_message_packed;
 use saved_files::Loaded;
-use saved_head::Head;
-use std::rt::Runtime;
+use saved_head::{Head, Kind};
+use std::alloc::AllocError;
 
-fn parameters(h: Head, dimension: LweDimension) -> LweDecryptionParameters {
-    let modulus = h.modulus;
-    LweDecryptionParameters {
-        dimension,
-        modulus,
+// What stands where no message could be opened: it differs from every message.
+const NONE: u32 = u32::MAX;
+
+fn parameters(h: Head) -> Result<LweDecryptionParameters, Refusal> {
+    Ok(LweDecryptionParameters {
+        dimension: LweDimension::try_new(h.n)?,
+        modulus: h.modulus,
         plaintext_modulus: h.plaintext_modulus,
+    })
+}
+
+// The messages of ciphertexts of one message each, or of a packed one.
+fn open(h: Head, secret: &[u32], words: &[u32], out: &mut [u32]) -> Result<(), Refusal> {
+    let params = parameters(h)?;
+    if h.kind == Kind::Packed {
+        decrypt_message_packed(params, secret, words, out)
+    } else {
+        decrypt_message_batch_to(params, secret, words, out)
     }
 }
 
-// The messages of a file of kind 5 or 6.
-fn open(h: Head, secret: &[u32], words: &[u32], out: &mut [u32]) -> u32 {
-    match LweDimension::try_new(h.n) {
-        LweDimensionAnswer::Refused(r) => r,
-        LweDimensionAnswer::Accepted(dimension) => {
-            let params = parameters(h, dimension);
-            if h.kind == 6 {
-                return decrypt_message_packed(params, secret, words, out);
-            }
-            decrypt_message_batch_to(params, secret, words, out)
-        }
+// The messages of ciphertexts of one message each under a signed secret.
+fn open_signed(h: Head, secret: &[i32], words: &[u32], out: &mut [u32]) -> Result<(), Refusal> {
+    let params = parameters(h)?;
+    let key = LweSecretKeyRef::Signed(secret);
+    out.fill(NONE);
+    let rows = words.chunks_exact(h.n.saturating_add(1));
+    for (message, row) in out.iter_mut().zip(rows) {
+        *message = decrypt_message(params, key, row).unwrap_or(NONE);
     }
-}
-
-// The rooms are cut to the lengths that the heads give.
-fn open_in(h: Head, n: usize, secret: &[u32], words: &[u32], out: &mut [u32]) -> u32 {
-    let a = programs::at_most(n, secret.len());
-    let b = programs::at_most(h.words as usize, words.len());
-    let c = programs::at_most(h.count as usize, out.len());
-    open(h, &secret[0..a], &words[0..b], &mut out[0..c])
-}
-
-// The message of the ciphertext at `at`, or 2^32 − 1, which is none.
-fn message_at(
-    params: LweDecryptionParameters,
-    secret: &[i32],
-    words: &[u32],
-    at: usize,
-    width: usize,
-) -> u32 {
-    let end = std::num::wrapping_add_usize(at, width);
-    if end < at {
-        return 0xffff_ffff;
-    }
-    if words.len() < end {
-        return 0xffff_ffff;
-    }
-    match decrypt_message_signed(params, secret, &words[at..end]) {
-        WordAnswer::Word(m) => m,
-        WordAnswer::Refused(_) => 0xffff_ffff,
-    }
-}
-
-fn open_rows(
-    params: LweDecryptionParameters,
-    secret: &[i32],
-    words: &[u32],
-    width: usize,
-    out: &mut [u32],
-) {
-    let mut i = 0;
-    let mut at = 0;
-    while i < out.len() {
-        out[i] = message_at(params, secret, words, at, width);
-        at = std::num::wrapping_add_usize(at, width);
-        i += 1;
-    }
-}
-
-// The messages of a file of kind 5 under a signed secret; what cannot be opened differs from every message.
-fn open_signed(h: Head, n: usize, secret: &[i32], words: &[u32], out: &mut [u32]) -> u32 {
-    let width = std::num::wrapping_add_usize(h.n, 1);
-    if secret.len() < n {
-        return DIFFERS;
-    }
-    match LweDimension::try_new(h.n) {
-        LweDimensionAnswer::Refused(r) => r,
-        LweDimensionAnswer::Accepted(dimension) => {
-            open_rows(parameters(h, dimension), &secret[0..n], words, width, out);
-            0
-        }
-    }
+    Ok(())
 }
 
 // What refuses a file, the messages saved beside it, or those that it opens to.
-fn told_refusal(l: Loaded, beside: Loaded, refusal: u32, same: bool) -> u32 {
-    let h = l.head;
-    let b = beside.head;
-    let r = files::first(files::first(l.refusal, beside.refusal), refusal);
-    let r = files::first(r, files::unless(b.kind == 7 && b.words == h.count));
-    files::first(r, files::unless(same))
+fn told_verdict(
+    l: Loaded<u32>,
+    beside: Loaded<u32>,
+    opening: Result<(), Refusal>,
+    out: &[u32],
+) -> Result<(), Fault> {
+    l.refusal?;
+    beside.refusal?;
+    opening?;
+    agrees(beside.head.kind == Kind::Messages && beside.head.words == l.head.count)?;
+    agrees(programs::same(out, beside.words, l.head.count as usize))
 }
 
 // The line of a file whose messages are in `out`: they are compared with those saved beside it.
-fn tell(rt: &impl Runtime, folder: &[u8], name: &[u8], l: Loaded, refusal: u32, out: &[u32]) {
-    let h = l.head;
-    let count = h.count as usize;
+fn tell(
+    folder: Folder,
+    name: &str,
+    l: Loaded<u32>,
+    opening: Result<(), Refusal>,
+    out: &[u32],
+) -> Result<(), AllocError> {
     let mut told = [0u32; 8192];
-    let beside = files::load(rt, folder, name, b".opens", &mut told);
-    let same = programs::same(out, &told, count);
-    let r = told_refusal(l, beside, refusal, same);
-    files::begin(rt, folder, name, l);
-    tell_messages(rt, count as u64, beside.checksum as u64);
-    files::end(rt, b"as saved", r);
+    let beside = folder.load(name, ".opens", &mut told)?;
+    folder.begin(name, l);
+    let _ = print!(folder.rt; "{} messages, checksum {}: ", l.head.count, beside.checksum);
+    folder.end("as saved", told_verdict(l, beside, opening, out));
+    Ok(())
 }
 
-fn tell_messages(rt: &impl Print, count: u64, checksum: u64) {
-    programs::print(rt, b"", count);
-    programs::print(rt, b" messages, checksum ", checksum);
-    programs::write(rt, b": ");
-}
-
-pub(crate) fn opened(rt: &impl Runtime, folder: &[u8], name: &[u8], secret: &[u8]) {
+pub(crate) fn opened(folder: Folder, name: &str, secret: &str) -> Result<(), AllocError> {
     let mut key = [0u32; 8192];
     let mut words = [0u32; 8192];
-    let mut out = [0u32; 8192];
-    let k = files::load(rt, folder, secret, b"", &mut key);
-    let l = files::load(rt, folder, name, b"", &mut words);
-    let s = k.head;
-    let h = l.head;
-    let r = open_in(h, s.words as usize, &key, &words, &mut out);
-    tell(rt, folder, name, l, r, &out);
+    let mut room = [0u32; 8192];
+    let k = folder.load(secret, "", &mut key)?;
+    let l = folder.load(name, "", &mut words)?;
+    let count = room.len().min(l.head.count as usize);
+    let out = &mut room[..count];
+    let opening = open(l.head, k.words, l.words, out);
+    tell(folder, name, l, opening, out)
 }
 
-pub(crate) fn opened_signed(rt: &impl Runtime, folder: &[u8], name: &[u8], secret: &[u8]) {
+pub(crate) fn opened_signed(folder: Folder, name: &str, secret: &str) -> Result<(), AllocError> {
     let mut key = [0i32; 2048];
     let mut words = [0u32; 8192];
     let mut out = [0u32; 64];
-    let k = files::load_numbers(rt, folder, secret, &mut key);
-    let l = files::load(rt, folder, name, b"", &mut words);
-    let s = k.head;
-    let h = l.head;
-    let r = open_signed(h, s.words as usize, &key, &words, &mut out);
-    tell(rt, folder, name, l, r, &out);
+    let k = folder.load(secret, "", &mut key)?;
+    let l = folder.load(name, "", &mut words)?;
+    let opening = open_signed(l.head, k.words, l.words, &mut out);
+    tell(folder, name, l, opening, &out)
 }

@@ -6,46 +6,58 @@ mod ciphertexts;
 mod files;
 mod keys;
 
-use std::rt::Runtime;
+use files::Folder;
+use saved_head::Kind;
+use std::alloc::AllocError;
 
 // The keys. Each is tried on what it was made for.
-fn tried(rt: &impl Runtime, folder: &[u8]) {
-    keys::secret(rt, folder, b"secret");
-    keys::secret(rt, folder, b"group_secret");
-    keys::signed_secret(rt, folder, b"signed_secret");
-    keys::public_key(rt, folder, b"public_key", b"secret");
-}
-
-fn opened(rt: &impl Runtime, folder: &[u8]) {
-    ciphertexts::opened(rt, folder, b"fresh", b"secret");
-    ciphertexts::opened(rt, folder, b"summed", b"secret");
-    ciphertexts::opened(rt, folder, b"packed", b"secret");
-    ciphertexts::opened(rt, folder, b"public", b"secret");
-    ciphertexts::opened_signed(rt, folder, b"signed_fresh", b"signed_secret");
-}
-
-fn switched(rt: &impl Runtime, folder: &[u8]) {
-    keys::switching_key(rt, folder, b"switching_key", b"summed", b"switched");
-    keys::switching_key(
-        rt,
+fn tried(folder: Folder) -> Result<(), AllocError> {
+    let mut words = [0u32; 8192];
+    let mut numbers = [0i32; 2048];
+    for name in ["secret", "group_secret"] {
+        keys::secret(
+            folder,
+            name,
+            Kind::SecretKey,
+            "a secret key of words",
+            &mut words,
+        )?;
+    }
+    keys::secret(
         folder,
-        b"signed_switching_key",
-        b"signed_fresh",
-        b"signed_switched",
-    );
-    ciphertexts::opened(rt, folder, b"switched", b"group_secret");
-    ciphertexts::opened(rt, folder, b"signed_switched", b"group_secret");
+        "signed_secret",
+        Kind::SignedSecretKey,
+        "a secret key of signed numbers",
+        &mut numbers,
+    )?;
+    keys::public_key(folder, "public_key", "secret")
 }
 
-// The files of one modulus.
-fn setting(rt: &impl Runtime, folder: &[u8]) {
-    tried(rt, folder);
-    opened(rt, folder);
-    switched(rt, folder);
+fn opened(folder: Folder) -> Result<(), AllocError> {
+    for name in ["fresh", "summed", "packed", "public"] {
+        ciphertexts::opened(folder, name, "secret")?;
+    }
+    ciphertexts::opened_signed(folder, "signed_fresh", "signed_secret")
 }
 
-fn main(rt: HostRuntime) {
-    setting(&rt, b"release_1/native/");
-    setting(&rt, b"release_1/prime/");
-    setting(&rt, b"release_1/power/");
+fn switched(folder: Folder) -> Result<(), AllocError> {
+    keys::switching_key(folder, "switching_key", "summed", "switched")?;
+    keys::switching_key(
+        folder,
+        "signed_switching_key",
+        "signed_fresh",
+        "signed_switched",
+    )?;
+    ciphertexts::opened(folder, "switched", "group_secret")?;
+    ciphertexts::opened(folder, "signed_switched", "group_secret")
+}
+
+fn main(rt: HostRuntime) -> Result<(), AllocError> {
+    for path in ["release_1/native/", "release_1/prime/", "release_1/power/"] {
+        let folder = Folder { rt: &rt, path };
+        tried(folder)?;
+        opened(folder)?;
+        switched(folder)?;
+    }
+    Ok(())
 }
