@@ -42,7 +42,7 @@ fn c_right(r: &[u8]) -> bool {
     if modulus == 0 && little_endian::u8_at(r, 0) != 0 {
         return true;
     }
-    let answer = saigagalena_codec::saigagalena_decode(
+    let answer = c_numbers::decode_number(
         modulus,
         little_endian::u32_at(r, 5),
         little_endian::u32_at(r, 9),
