@@ -17,13 +17,7 @@ fn print_basis(out: &mut impl Write, r: BasisReply) {
     let _ = write!(
         out,
         "basis {} {} {} {} {} {} {}",
-        r.modulus,
-        r.value_bits,
-        r.log_basis,
-        r.level_count,
-        r.drop_bits,
-        r.error_bound,
-        r.threshold
+        r.modulus, r.value_bits, r.log_basis, r.level_count, r.drop_bits, r.error_bound, r.threshold
     );
 }
 
