@@ -1,13 +1,12 @@
 -- What parameters are judged by, and what their calls promise.
-use Rattle.std.specs.Prelude.{List, [], ◌∷◌, ◌++◌, ℕ, ◌+◌, ◌*◌, eqb}
-use Rattle.scheme.specs.Numbers.{pick}
-use Rattle.scheme.specs.Checks.{Check, row, refusal, dimension_fails}
+use Rattle.std.specs.Prelude.{List, [], ◌∷◌, ◌++◌, ℕ, ◌+◌, ◌*◌, Result}
+use Rattle.scheme.specs.Checks.{Check, row, dimension_fails}
+use Rattle.check_order.specs.declared.refusal.Refusal.{Refusal}
+use Rattle.check_order.specs.Answer.{answer}
 use Rattle.primus_reduce.specs.Ring.{size_of}
 use Rattle.primus_reduce.specs.declared.modulus.Modulus.{Modulus}
 use Rattle.primus_decompose.specs.Answers.{rows, basis_with}
 use Rattle.key_switch_parameters.specs.declared.LweKeySwitchingParameters.{LweKeySwitchingParameters}
-use Rattle.key_switch_parameters.specs.declared.LweKeySwitchingParametersAnswer.{LweKeySwitchingParametersAnswer}
-use Rattle.key_switch_parameters.specs.declared.LweKeySwitchingParametersAnswer.TheVariants.{Accepted, Refused}
 
 -- q, n, m and L
 abbrev pub q_in : LweKeySwitchingParameters → ℕ
@@ -26,8 +25,8 @@ levels_in P = P.basis.level_count.0
 abbrev pub parameter_rows : LweKeySwitchingParameters → List Check
 parameter_rows P = rows P.basis ++ row (dimension_fails (n_in P)) 6 ∷ row (dimension_fails (m_in P)) 6 ∷ []
 
-abbrev pub parameters_answer : LweKeySwitchingParameters → LweKeySwitchingParametersAnswer
-parameters_answer P = pick (eqb (refusal (parameter_rows P)) 0) (Accepted P) (Refused (refusal (parameter_rows P)))
+abbrev pub parameters_answer : LweKeySwitchingParameters → Result LweKeySwitchingParameters Refusal
+parameters_answer P = answer (parameter_rows P) P
 
 -- of plain numbers: q, base log, levels (0: left open), n and m
 abbrev pub parameters_with : Modulus → ℕ → ℕ → ℕ → ℕ → LweKeySwitchingParameters

@@ -2,12 +2,12 @@
 #![tactic(auto)]
 
 ghost use Rattle.std.specs.Prelude.{◌≡◌, ◌||◌, ◌+◌, ◌*◌};
-ghost use Rattle.scheme.specs.Checks.{refusal, dimension_fails, length_fails, words_fail};
+ghost use Rattle.scheme.specs.Checks.{dimension_fails, length_fails, words_fail};
 ghost use Rattle.check_order.specs.Judged.{JudgesSizes};
 ghost use Rattle.key_switch_parameters.specs.Answers.{q_in, n_in, m_in, levels_in, key_words};
 ghost use Rattle.key_switch_parameters.specs.Answers.{parameter_rows, parameters_answer, parameters_with};
 
-use check_order::Sizes;
+use check_order::{Refusal, Sizes};
 use primus_decompose::ApproxSignedBasis;
 use primus_lattice::LweDimension;
 use primus_reduce::Modulus;
@@ -18,13 +18,6 @@ pub struct LweKeySwitchingParameters {
     pub basis: ApproxSignedBasis,
     pub input_dimension: LweDimension,
     pub output_dimension: LweDimension,
-}
-
-// The parameters, or the first number that applies.
-#[derive(Clone, Copy)]
-pub enum LweKeySwitchingParametersAnswer {
-    Accepted(LweKeySwitchingParameters),
-    Refused(u32),
 }
 
 // 9, 11: `len` is not n × L entries of m + 1 words. No product: it could overflow.
@@ -43,7 +36,7 @@ impl LweKeySwitchingParameters {
         basis: ApproxSignedBasis,
         input_dimension: LweDimension,
         output_dimension: LweDimension,
-    ) -> LweKeySwitchingParametersAnswer
+    ) -> Result<LweKeySwitchingParameters, Refusal>
         ensures { result ≡ parameters_answer (record {
           basis = basis;
           input_dimension = input_dimension;
@@ -55,11 +48,8 @@ impl LweKeySwitchingParameters {
             input_dimension,
             output_dimension,
         };
-        let r = params.refusal();
-        if r != 0 {
-            return LweKeySwitchingParametersAnswer::Refused(r);
-        }
-        LweKeySwitchingParametersAnswer::Accepted(params)
+        params.sizes().judge()?;
+        Ok(params)
     }
 
     // Any numbers, as a caller gives them, levels 0 left open: the calls judge them by 1 to 3, 5, 6.
@@ -83,45 +73,32 @@ impl LweKeySwitchingParameters {
     pub fn sizes(self) -> Sizes
         ensures { JudgesSizes (parameter_rows self) result }
     {
-        let basis = self.basis;
-        let mut s = basis.sizes();
+        let mut s = self.basis.sizes();
         s.dimension = self.dimensions_refused();
         s
-    }
-
-    // The first of 1 to 3, 5, 6 that applies, or 0.
-    fn refusal(self) -> u32
-        ensures { result ≡ refusal (parameter_rows self) }
-    {
-        let s = self.sizes();
-        s.first()
     }
 
     // 6, of n and of m.
     fn dimensions_refused(self) -> bool
         ensures { result ≡ (dimension_fails (m_in self) || dimension_fails (n_in self)) }
     {
-        let input = self.input_dimension;
-        let output = self.output_dimension;
-        output.refused() | input.refused()
+        self.output_dimension.refused() | self.input_dimension.refused()
     }
 
     // L
     pub fn level_count(self) -> usize
         ensures { result ≡ levels_in self }
     {
-        let basis = self.basis;
-        let levels = basis.level_count();
-        levels.get()
+        self.basis.level_count().get()
     }
 
     // 9, 11: `len` is not the length of a key.
     pub fn key_differs(self, len: usize) -> bool
         ensures { result ≡ length_fails len (key_words self) }
     {
-        let n = self.input_dimension;
-        let m = self.output_dimension;
-        entries_differ(len, n.get(), self.level_count(), m.get())
+        let n = self.input_dimension.get();
+        let m = self.output_dimension.get();
+        entries_differ(len, n, self.level_count(), m)
     }
 
     // 14, of a key and of ciphertexts.
@@ -129,7 +106,6 @@ impl LweKeySwitchingParameters {
         ensures { result ≡
             (words_fail (q_in self) input.now || words_fail (q_in self) key.now) }
     {
-        let basis = self.basis;
-        checks::both_refused(basis.modulus(), key, input)
+        checks::both_refused(self.basis.modulus(), key, input)
     }
 }
