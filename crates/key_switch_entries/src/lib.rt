@@ -4,31 +4,26 @@
 ghost use Rattle.std.specs.Prelude.{◌≡◌, ◌||◌, ◌*◌, length};
 ghost use Rattle.scheme.specs.Lwe.{key_length};
 ghost use Rattle.scheme.specs.Checks.{refusal, length_fails, error_limit_fails, words_fail, key_fails};
+ghost use Rattle.check_order.specs.Answer.{code_of};
 ghost use Rattle.gadget_constants.specs.Prepared.{Ready};
 ghost use Rattle.primus_decompose.specs.Answers.{rows, prepared_by};
 ghost use Rattle.lwe_secret_key.specs.Key.{key_of};
 ghost use Rattle.key_switch_parameters.specs.Answers.{q_in, n_in, m_in, levels_in};
 ghost use Rattle.key_switch_entries.specs.Answers.{generate_rows, generated_for, Generable};
 
-use check_order::Values;
+use check_order::{Refusal, Values};
 use gadget_constants::PreparedBasis;
 use key_switch_parameters::LweKeySwitchingParameters;
-use lwe_secret_key::{KeyForm, encrypt_row, key_residue};
+use lwe_secret_key::LweSecretKeyRef;
 
 // 9: the input key does not have n numbers, or the output key not m.
-fn keys_differ(
-    params: LweKeySwitchingParameters,
-    form: KeyForm,
-    words: &[u32],
-    signed: &[i32],
-    output_key: usize,
-) -> bool
+fn keys_differ(params: LweKeySwitchingParameters, key: LweSecretKeyRef, output_key: usize) -> bool
     ensures { result ≡ (length_fails output_key (m_in params)
-        || length_fails (key_length (key_of form words.now signed.now)) (n_in params)) }
+        || length_fails (key_length (key_of key.entry)) (n_in params)) }
 {
     let n = params.input_dimension;
     let m = params.output_dimension;
-    m.differs(output_key) | lwe_secret_key::key_differs(form, words, signed, n)
+    m.differs(output_key) | key.differs(n)
 }
 
 // 12: there are not n × L errors, or not m mask words for each. No product of three: it could overflow.
@@ -45,57 +40,47 @@ fn lent_differs(params: LweKeySwitchingParameters, masks: usize, errors: usize) 
 fn error_limit_refused(params: LweKeySwitchingParameters, error_limit: u32) -> bool
     ensures { result ≡ error_limit_fails (q_in params) error_limit }
 {
-    let basis = params.basis;
-    checks::error_limit_refused(error_limit, basis.modulus())
+    checks::error_limit_refused(error_limit, params.basis.modulus())
 }
 
 // 14, of both keys and the masks.
 fn words_refused(
     params: LweKeySwitchingParameters,
-    form: KeyForm,
-    words: &[u32],
-    signed: &[i32],
+    key: LweSecretKeyRef,
     output_key: &[u32],
     masks: &[u32],
 ) -> bool
     ensures { result ≡ ((words_fail (q_in params) masks.now
         || words_fail (q_in params) output_key.now)
-        || key_fails (q_in params) (key_of form words.now signed.now)) }
+        || key_fails (q_in params) (key_of key.entry)) }
 {
-    let modulus = params.basis.modulus();
-    params.words_refused(output_key, masks)
-        | lwe_secret_key::key_refused(form, modulus, words, signed)
+    params.words_refused(output_key, masks) | key.refused(params.basis.modulus())
 }
 
-// The first refusal of a generation, or 0.
+// The first refusal of a generation.
 pub fn generate_refusal(
     params: LweKeySwitchingParameters,
     error_limit: u32,
-    form: KeyForm,
-    words: &[u32],
-    signed: &[i32],
+    key: LweSecretKeyRef,
     output_key: &[u32],
     masks: &[u32],
     errors: &[i32],
     room: usize,
-) -> u32
-    ensures { result ≡ refusal (generate_rows params error_limit
-        (key_of form words.now signed.now) output_key.now
+) -> Result<(), Refusal>
+    ensures { code_of result ≡ refusal (generate_rows params error_limit
+        (key_of key.entry) output_key.now
         masks.now errors.now room) }
 {
     let mut s = params.sizes();
-    s.key = keys_differ(params, form, words, signed, output_key.len());
+    s.key = keys_differ(params, key, output_key.len());
     s.output = params.key_differs(room);
     s.lent = lent_differs(params, masks.len(), errors.len());
     s.error_limit = error_limit_refused(params, error_limit);
-    let r = s.first();
-    if r != 0 {
-        return r;
-    }
+    s.judge()?;
     let mut v = Values::NONE;
-    v.word = words_refused(params, form, words, signed, output_key, masks);
+    v.word = words_refused(params, key, output_key, masks);
     v.error = checks::errors_refused(error_limit, errors);
-    v.first()
+    v.judge()
 }
 
 // The basis with its constants, for calls that have judged it.
@@ -103,48 +88,33 @@ fn prepared(params: LweKeySwitchingParameters) -> PreparedBasis
     requires { refusal (rows params.basis) ≡ 0 }
     ensures { Ready result × (result ≡ prepared_by params.basis) }
 {
-    let basis = params.basis;
-    let log = basis.log_basis();
-    gadget_constants::prepare(basis.modulus(), log.get(), params.level_count())
+    let log = params.basis.log_basis();
+    gadget_constants::prepare(params.basis.modulus(), log.get(), params.level_count())
 }
 
 // Every entry, for calls that have judged what they are lent: entry k = i × L + j has mask and error k.
 pub fn write_entries(
     out: &mut [u32],
     params: LweKeySwitchingParameters,
-    form: KeyForm,
-    words: &[u32],
-    signed: &[i32],
+    key: LweSecretKeyRef,
     output_key: &[u32],
     masks: &[u32],
     errors: &[i32],
 )
     requires { Generable params masks.now errors.now (length out.old) }
-    ensures { out.new ≡ generated_for params (key_of form words.now signed.now)
+    ensures { out.new ≡ generated_for params (key_of key.entry)
         output_key.now errors.now masks.now }
 {
     let p = prepared(params);
     let modulus = p.modulus;
     let m = params.output_dimension.get();
     let weights = params.basis.scalars();
-    let mut k = 0;
-    while k < errors.len() {
+    let output = LweSecretKeyRef::Encoded(output_key);
+    for k in 0..errors.len() {
         let i = k / p.level_count;
         let j = k % p.level_count;
-        let secret = key_residue(form, words, signed, i, modulus);
+        let secret = key.residue(i, modulus);
         let plaintext = modulus.reduce_mul(secret, weights[j]);
-        encrypt_row(
-            out,
-            KeyForm::Words,
-            output_key,
-            &[],
-            masks,
-            m,
-            errors,
-            k,
-            plaintext,
-            modulus,
-        );
-        k += 1;
+        output.encrypt_row(out, masks, m, errors, k, plaintext, modulus);
     }
 }
