@@ -1,29 +1,27 @@
 -- What keys are judged by, and what the calls promise.
-use Rattle.std.specs.Prelude.{Bool, ◌||◌, List, [], ◌∷◌, ◌++◌, ℕ, ◌+◌, ◌*◌, eqb, leb, ℤ, length}
+use Rattle.std.specs.Prelude.{Bool, ◌||◌, List, [], ◌∷◌, ◌++◌, ℕ, ◌+◌, ◌*◌, eqb, leb, ℤ, length, Option, None, Some, Result}
 use Rattle.scheme.specs.Numbers.{pick}
 use Rattle.scheme.specs.Lwe.{Key}
 use Rattle.scheme.specs.Switch.{entry_number, entry_of}
 use Rattle.scheme.specs.Checks.{Check, row, refusal, Writes, length_fails}
+use Rattle.check_order.specs.declared.refusal.Refusal.{Refusal}
+use Rattle.check_order.specs.Answer.{answer}
 use Rattle.key_switch_parameters.specs.declared.LweKeySwitchingParameters.{LweKeySwitchingParameters}
 use Rattle.key_switch_parameters.specs.Answers.{n_in, m_in, levels_in, parameter_rows, key_words}
 use Rattle.key_switch_entries.specs.Answers.{generate_rows, generated_for}
-use Rattle.key_switch_key.specs.declared.key.EntryAnswer.{EntryAnswer}
-use Rattle.key_switch_key.specs.declared.key.EntryAnswer.TheVariants as E
 
 -- a key of `len` words
 abbrev pub entry_rows : LweKeySwitchingParameters → ℕ → List Check
 entry_rows P len = parameter_rows P ++ row (length_fails len (key_words P)) 9 ∷ []
 
--- these papers leave open what is answered of an entry that a key does not have: no number, and no place
+-- an entry that a key does not have has no number, and no place
 abbrev pub entry_missing : LweKeySwitchingParameters → ℕ → ℕ → Bool
 entry_missing P i j = leb (n_in P) i || leb (levels_in P) j
 
 -- where entry (i, j) of a key of `len` words begins
-abbrev pub entry_answer : LweKeySwitchingParameters → ℕ → ℕ → ℕ → EntryAnswer
+abbrev pub entry_answer : LweKeySwitchingParameters → ℕ → ℕ → ℕ → Result (Option ℕ) Refusal
 entry_answer P len i j =
-    pick (eqb (refusal (entry_rows P len)) 0)
-    (pick (entry_missing P i j) E.Missing (E.At (entry_number (levels_in P) i j * (m_in P + 1))))
-    (E.Refused (refusal (entry_rows P len)))
+    answer (entry_rows P len) (pick (entry_missing P i j) None (Some (entry_number (levels_in P) i j * (m_in P + 1))))
 
 -- "one entry is handed out as that part of the caller's key"; an empty part where it is missing, or the key refused
 abbrev pub entry_part : LweKeySwitchingParameters → List ℕ → ℕ → ℕ → List ℕ

@@ -3,5 +3,5 @@
 
 mod key;
 
-pub use key::{EntryAnswer, LweKeySwitchingKey};
-pub use key_switch_parameters::{LweKeySwitchingParameters, LweKeySwitchingParametersAnswer};
+pub use key::LweKeySwitchingKey;
+pub use key_switch_parameters::LweKeySwitchingParameters;
