@@ -44,16 +44,20 @@ module _ (P : LweKeySwitchingParameters) (key input : List ℕ) (room : ℕ) whe
         words = words_ok _ input words.1;
       }
 
-  pub batch_passed : refusal (batch_rows P key input room) ≡ 0 → Switchable P key input (length input / (n_in P + 1)) room
+  batch_passed : refusal (batch_rows P key input room) ≡ 0 → Switchable P key input (length input / (n_in P + 1)) room
   batch_passed e =
       let no = passed (batch_rows P key input room) e in
       switchable _ _ _ e (batch_whole (length input) (n_in P) (no 10 tt)) (length_ok _ _ (no 11 tt))
 
-  pub rows_passed : {count : ℕ} → count ≡ length input / (n_in P + 1) → refusal (batch_rows P key input room) ≡ 0 → Switchable P key input count room
-  rows_passed c e = subst (λ n. Switchable P key input n room) (sym c) (batch_passed e)
+  pub rows_passed : {count : ℕ} → count ≡ length input / (n_in P + 1) → 0 ≡ refusal (batch_rows P key input room) → Switchable P key input count room
+  rows_passed c e = subst (λ n. Switchable P key input n room) (sym c) (batch_passed (sym e))
 
-  pub one_passed : refusal (switch_rows P key input room) ≡ 0 → (length input ≡ n_in P + 1) × Switchable P key input 1 room
-  one_passed e =
+  pub count_is : {n count : ℕ} → n ≡ n_in P → count ≡ length input / (n + 1) → count ≡ length input / (n_in P + 1)
+  count_is en ec = ec ∙ ap (λ n. length input / (n + 1)) en
+
+  pub one_passed : 0 ≡ refusal (switch_rows P key input room) → (length input ≡ n_in P + 1) × Switchable P key input 1 room
+  one_passed told =
+      let e : refusal (switch_rows P key input room) ≡ 0 = sym told in
       let no = passed (switch_rows P key input room) e in
       let l : length input ≡ n_in P + 1 = length_ok _ _ (no 10 tt) in
       let o : room ≡ m_in P + 1 = length_ok _ _ (no 11 tt) in

@@ -1,11 +1,12 @@
 -- What the two calls are judged by, and what they promise.
-use Rattle.std.specs.Prelude.{◌≡◌, Bool, List, [], ◌∷◌, ◌++◌, ℕ, ◌+◌, ◌*◌, ◌/◌, ◌≤◌, length}
+use Rattle.std.specs.Prelude.{◌≡◌, Bool, List, [], ◌∷◌, ◌++◌, ℕ, ◌+◌, ◌*◌, ◌/◌, ◌≤◌, length, Result}
 use Rattle.scheme.specs.Switch.{Below, switched, switched_batch}
 use Rattle.scheme.specs.Tally.{Switched}
 use Rattle.scheme.specs.Checks.{Check, row, refusal, length_fails, batch_fails, words_fail}
 use Rattle.primus_decompose.specs.Answers.{basis, rows}
 use Rattle.key_switch_parameters.specs.declared.LweKeySwitchingParameters.{LweKeySwitchingParameters}
-use Rattle.lwe_tag.specs.declared.LweAnswer.{LweAnswer}
+use Rattle.lwe_tag.specs.declared.LweTag.{LweTag}
+use Rattle.check_order.specs.declared.refusal.Refusal.{Refusal}
 use Rattle.lwe_tag.specs.Answers.{tag_from, WritesTagged}
 use Rattle.key_switch_parameters.specs.Answers.{q_in, n_in, m_in, key_words, parameter_rows}
 
@@ -32,18 +33,18 @@ batch_rows P key input room =
     (batch_fails (length input) (n_in P)) (length_fails room (length input / (n_in P + 1) * (m_in P + 1)))
 
 -- "Output is (0, b) minus the sum of digit(i, j) × entry(i, j) modulo q"
-pub record Switches (P : LweKeySwitchingParameters) (key input before : List ℕ) (answer : LweAnswer) (after : List ℕ)
+pub record Switches (P : LweKeySwitchingParameters) (key input before : List ℕ) (given : Result LweTag Refusal) (after : List ℕ)
     : Type 0 where
   pub writes :
       WritesTagged (switch_rows P key input (length before)) (tag_from Switched)
-      (switched (basis P.basis) (n_in P) (m_in P) key input) before answer after
+      (switched (basis P.basis) (n_in P) (m_in P) key input) before given after
 
 -- "Input and output are runs of ciphertexts": row t of the output is the one switch of row t of the input
-pub record SwitchesBatch (P : LweKeySwitchingParameters) (key input before : List ℕ) (answer : LweAnswer) (after : List ℕ)
+pub record SwitchesBatch (P : LweKeySwitchingParameters) (key input before : List ℕ) (given : Result LweTag Refusal) (after : List ℕ)
     : Type 0 where
   pub writes :
       WritesTagged (batch_rows P key input (length before)) (tag_from Switched)
-      (switched_batch (basis P.basis) (n_in P) (m_in P) key (length input / (n_in P + 1)) input) before answer after
+      (switched_batch (basis P.basis) (n_in P) (m_in P) key (length input / (n_in P + 1)) input) before given after
 
 -- what the checks leave, for `count` ciphertexts into `room` words
 pub record Switchable (P : LweKeySwitchingParameters) (key input : List ℕ) (count room : ℕ) : Type 0 where

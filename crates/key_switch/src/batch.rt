@@ -2,8 +2,9 @@
 ghost use Rattle.key_switch.specs.Answers.{SwitchesBatch};
 
 use crate::{switch_judged, switch_refusal};
+use check_order::Refusal;
 use key_switch_parameters::LweKeySwitchingParameters;
-use lwe_tag::{LweAnswer, LweTag};
+use lwe_tag::LweTag;
 
 // Each row of n + 1 words is switched to its own row of m + 1, none with a tally. Refuses by 1 to 3, 5, 6, 9, 10, 11, 14.
 pub fn key_switch_batch_to(
@@ -11,7 +12,7 @@ pub fn key_switch_batch_to(
     key: &[u32],
     input: &[u32],
     out: &mut [u32],
-) -> LweAnswer
+) -> Result<LweTag, Refusal>
     ensures { SwitchesBatch params key.now input.now
         out.old result out.new }
 {
@@ -20,10 +21,7 @@ pub fn key_switch_batch_to(
     let count = checks::batch_count(input.len(), n);
     let input_differs = checks::batch_differs(input.len(), n);
     let output_differs = checks::ciphertexts_differ(out.len(), count, m);
-    let r = switch_refusal(params, key, input, input_differs, output_differs);
-    if r != 0 {
-        return LweAnswer::Refused(r);
-    }
+    switch_refusal(params, key, input, input_differs, output_differs)?;
     switch_judged(out, input, key, count, params);
-    LweAnswer::Written(LweTag::none())
+    Ok(LweTag::none())
 }

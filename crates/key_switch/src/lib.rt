@@ -4,6 +4,7 @@
 ghost use Rattle.std.specs.Prelude.{◌≡◌, length};
 ghost use Rattle.scheme.specs.Switch.{switched_batch};
 ghost use Rattle.scheme.specs.Checks.{refusal};
+ghost use Rattle.check_order.specs.Answer.{code_of};
 ghost use Rattle.primus_decompose.specs.Answers.{basis};
 ghost use Rattle.key_switch_parameters.specs.Answers.{n_in, m_in};
 ghost use Rattle.key_switch.specs.Answers.{input_rows, Switches, Switchable};
@@ -11,34 +12,32 @@ ghost use Rattle.key_switch.specs.Answers.{input_rows, Switches, Switchable};
 mod batch;
 
 pub use batch::key_switch_batch_to;
-use check_order::Values;
+use check_order::{Refusal, Values};
 use key_switch_kernel::switch_tiles;
 pub use key_switch_key::LweKeySwitchingKey;
-pub use key_switch_parameters::{LweKeySwitchingParameters, LweKeySwitchingParametersAnswer};
-use lwe_tag::{LweAnswer, LweTag};
+pub use key_switch_parameters::LweKeySwitchingParameters;
+use key_switch_tile::Shape;
+use lwe_tag::LweTag;
 
-// The first refusal of a switch, or 0, where 10 and 11 are judged by the caller.
+// The first refusal of a switch, where 10 and 11 are judged by the caller.
 pub(crate) fn switch_refusal(
     params: LweKeySwitchingParameters,
     key: &[u32],
     input: &[u32],
     input_differs: bool,
     output_differs: bool,
-) -> u32
-    ensures { result ≡ refusal (input_rows params key.now input.now
+) -> Result<(), Refusal>
+    ensures { code_of result ≡ refusal (input_rows params key.now input.now
         input_differs output_differs) }
 {
     let mut s = params.sizes();
     s.key = params.key_differs(key.len());
     s.input = input_differs;
     s.output = output_differs;
-    let r = s.first();
-    if r != 0 {
-        return r;
-    }
+    s.judge()?;
     let mut v = Values::NONE;
     v.word = params.words_refused(key, input);
-    v.first()
+    v.judge()
 }
 
 // `count` ciphertexts whose checks have passed.
@@ -53,12 +52,14 @@ pub(crate) fn switch_judged(
     ensures { out.new ≡ switched_batch (basis params.basis) (n_in params) (m_in params)
         key.now count input.now }
 {
-    let n = params.input_dimension;
-    let m = params.output_dimension;
     let basis = params.basis;
     let log = basis.log_basis();
-    let p = gadget_constants::prepare(basis.modulus(), log.get(), params.level_count());
-    switch_tiles(out, input, key, n.get(), m.get(), count, p);
+    let shape = Shape {
+        n: params.input_dimension.get(),
+        m: params.output_dimension.get(),
+        basis: gadget_constants::prepare(basis.modulus(), log.get(), params.level_count()),
+    };
+    switch_tiles(out, input, key, count, shape);
 }
 
 // One ciphertext, as a batch of one row; no tally. Refuses by 1 to 3, 5, 6, 9, 10, 11, 14.
@@ -67,7 +68,7 @@ pub fn key_switch_to(
     key: &[u32],
     input: &[u32],
     out: &mut [u32],
-) -> LweAnswer
+) -> Result<LweTag, Refusal>
     ensures { Switches params key.now input.now
         out.old result out.new }
 {
@@ -75,10 +76,7 @@ pub fn key_switch_to(
     let m = params.output_dimension;
     let input_differs = n.ciphertext_differs(input.len());
     let output_differs = m.ciphertext_differs(out.len());
-    let r = switch_refusal(params, key, input, input_differs, output_differs);
-    if r != 0 {
-        return LweAnswer::Refused(r);
-    }
+    switch_refusal(params, key, input, input_differs, output_differs)?;
     switch_judged(out, input, key, 1, params);
-    LweAnswer::Written(LweTag::none())
+    Ok(LweTag::none())
 }
