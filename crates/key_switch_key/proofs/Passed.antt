@@ -9,7 +9,7 @@ use native.Mathlib.Omega.{arith}
 use lib.Arith.{digits_lt}
 use lib.Dec.{eqb, leb}
 use lib.ListN.{length, take, drop}
-use borrow.Author.Tests.{eq-eqb, eqb-true, leb-false}
+use borrow.Author.Tests.{eqb-true, leb-false}
 use Rattle.scheme.specs.Numbers.{pick}
 use Rattle.scheme.specs.Switch.{entry_number}
 use Rattle.scheme.specs.Checks.{refusal}
