@@ -83,7 +83,6 @@ pub extern "C" fn saigagalena_decrypt_phase_batch(
         input.now out.old result out.new }
 {
     let params = c_numbers::phases_for(modulus, n);
-    let secret = LweSecretKeyRef::Encoded(secret);
     c_numbers::code(primus_lwe_batch::decrypt_phase_batch_to(params, secret, input, out))
 }
 
@@ -101,7 +100,6 @@ pub extern "C" fn saigagalena_decrypt_message_batch(
         input.now out.old result out.new }
 {
     let params = c_numbers::decryption_for(modulus, n, t);
-    let secret = LweSecretKeyRef::Encoded(secret);
     c_numbers::code(primus_lwe_batch::decrypt_message_batch_to(params, secret, input, out))
 }
 

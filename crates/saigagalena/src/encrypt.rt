@@ -135,7 +135,7 @@ pub extern "C" fn saigagalena_encrypt_message_batch(
     LweOutcome::from(primus_lwe_batch::encrypt_message_batch_to(
         params,
         c_numbers::embedding_for(centered),
-        LweSecretKeyRef::Encoded(secret),
+        secret,
         masks,
         errors,
         messages,
