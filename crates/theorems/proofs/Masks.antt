@@ -104,8 +104,8 @@ module _ (P : LweKeySwitchingParameters) (word : Fits 32 (meant P.basis.modulus)
           x = switched_batch b (n_in P) (m_in P) (made masks) (count X) X;
           y = switched_batch b (n_in P) (m_in P) (made masks) (count Y) Y;
           generates = record { writes = done (generate_any_masks P E key s' one masks errors (length over) l w (wrote generates.writes).0) refl };
-          switches_x = record { writes = W.done (batch_any_masks (secret_of key) (words s') (signed errors) masks keyX X (length overX) l w (written switches_x.writes).0) refl refl };
-          switches_y = record { writes = W.done (batch_any_masks (secret_of key) (words s') (signed errors) masks keyY Y (length overY) l w (written switches_y.writes).0) refl refl };
+          switches_x = record { writes = W.done (sym (batch_any_masks (secret_of key) (words s') (signed errors) masks keyX X (length overX) l w (written switches_x.writes).0)) refl refl };
+          switches_y = record { writes = W.done (sym (batch_any_masks (secret_of key) (words s') (signed errors) masks keyY Y (length overY) l w (written switches_y.writes).0)) refl refl };
         }
 
     module _ (t u : ℕ) (ht : t < length X / (n_in P + 1)) (hu : u < length Y / (n_in P + 1)) where

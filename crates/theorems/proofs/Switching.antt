@@ -4,7 +4,7 @@
 --     taken_cong           s taken as document 01 says agrees with s modulo q, and a word so taken is the nearer to zero: taken_least
 -- The laws behind them speak of the definitions, where the calls have no refusal.
 -- Assumes nothing.
-use mathlib.Core.Path.{◌≡◌}
+use mathlib.Core.Path.{◌≡◌, sym}
 use mathlib.Core.List.{List, ◌++◌}
 use Prim.Native.Nat.{ℕ, ◌+◌, ◌*◌, ◌/◌, ◌<◌, ◌≤◌}
 use native.Mathlib.Omega.{arith}
@@ -97,7 +97,7 @@ module _ (P : LweKeySwitchingParameters) (word : Fits 32 (meant P.basis.modulus)
     switch_phase {x} {before} d =
         let g = wrote c.writes in
         let w = written d.writes in
-        let o = one_passed P k x (length before) w.0 in
+        let o = one_passed P k x (length before) (sym w.0) in
         rw (w.1, g.1) (switched-accepted (length blank) g.0 x (λ i h. o.1.words i (omega (arith, o.0))))
 
     pub batch_switch_phase : {X before after : List ℕ} {tag : LweTag} → SwitchesBatch P k X before (Ok tag) after → (t : ℕ) → t < length X / (n_in P + 1)
