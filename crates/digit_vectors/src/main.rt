@@ -1,4 +1,4 @@
-// Compares the library's answers with data/digits.bin, which scripts/digits_vectors.py makes from document 01 alone, and
+// Compares the library's answers with data/digits.bin, which scripts/digits_vectors.py makes from the scheme's formulas alone, and
 // with data/oracle.bin, which holds what the Rust answered (oracle/sample.py).
 #![tactic(auto)]
 

@@ -8,7 +8,7 @@ use Rattle.primus_reduce.specs.Ring.{meant}
 use Rattle.primus_reduce.specs.declared.modulus.Modulus.{Modulus}
 use Rattle.gadget_constants.specs.declared.prepared.PreparedBasis.{PreparedBasis}
 
--- the basis of document 01, for words of 32 bits
+-- the basis of the scheme, for words of 32 bits
 abbrev pub basis_by : Modulus → ℕ → ℕ → Basis
 basis_by m b L = basis_of 32 (meant m) b L
 

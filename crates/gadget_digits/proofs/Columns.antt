@@ -103,7 +103,7 @@ module _ (b : Basis) (a : ℕ) where
       (ap₂ (λ l x. window l x (bit (after j (decomposer_of b a)).carry)) h.log_is h.value_is
       ∙ ap (window b.base_log (walk_at b.base_log (walk_from b a) j).left) h.carry-is)
 
--- the digits that the code writes are those of document 01
+-- the digits that the code writes are those of the scheme
 pub step_digits : (b : Basis) → Accepted b → b.modulus ≤ 2 ^ 32 → (a j : ℕ) → j < b.levels
     → step_digit (decomposer_of b a) j ≡ stored b.modulus (digit b a j)
 step_digits b ok wide a j h = step_walk b a j ∙ walk_digits 32 b ok wide a j h

@@ -1,5 +1,5 @@
--- The tally of each place of a total: that of its first file, and after an accepted file document 01's sum, so that `tally-sum` of scheme
--- holds of it. That a good sum opens to the sum of its messages is no theorem where t does not divide q: the mark counts one rounding (T-02).
+-- The tally of each place of a total: that of its first file, and after an accepted file the scheme's sum, so that `tally-sum` of scheme
+-- holds of it. That a good sum opens to the sum of its messages is no theorem where t does not divide q: the mark counts one rounding.
 --     begun_tally    the tally of the first file
 --     added_tally    the sum of two
 -- Assumes nothing.

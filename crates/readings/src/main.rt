@@ -1,4 +1,4 @@
-// The program `readings` of document 01: standard input to standard output.
+// The program `readings`: standard input to standard output.
 #![tactic(auto)]
 
 fn main(rt: HostRuntime) {

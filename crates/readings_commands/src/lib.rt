@@ -1,4 +1,4 @@
-// The commands of document 01: commands of one byte, operands little-endian, one line of answer each.
+// The commands of the program: one byte each, operands little-endian, one line of answer each.
 #![tactic(auto)]
 
 ghost use Rattle.std.specs.Prelude.{◌≡◌, ◌≤◌};

@@ -1,4 +1,4 @@
-// The answers of the program of document 01: what a basis and a word answer.
+// The answers of the program of readings: what a basis and a word answer.
 #![tactic(auto)]
 
 mod command;

@@ -1,4 +1,4 @@
-// The program of document 01 over a reader and a writer. What each read leaves and where the reads end is proved; reading and printing are not.
+// The program of readings over a reader and a writer. What each read leaves and where the reads end is proved; reading and printing are not.
 #![tactic(auto)]
 
 ghost use Rattle.std.specs.Prelude.{◌≡◌};

@@ -1,4 +1,4 @@
-// The program of document 01, byte by byte: which bytes make a command, and what falls due after each.
+// The program of readings, byte by byte: which bytes make a command, and what falls due after each.
 #![tactic(auto)]
 
 mod reader;

@@ -1,4 +1,4 @@
-// One read of the program of document 01: what its bytes leave.
+// One read of the program: what its bytes leave.
 #![tactic(auto)]
 
 mod step;

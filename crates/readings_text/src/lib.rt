@@ -1,4 +1,4 @@
-// Answers of the program of document 01 as lines of text.
+// Answers of the program as lines of text.
 #![tactic(auto)]
 
 mod print;

@@ -88,7 +88,7 @@ first_of f (x ∷ xs) k e h = go (f x) refl e (first_of f xs k)
         let r = rest e h in
         record { earlier = x ∷ r.earlier; later = r.later; place = ap (λ l. x ∷ l) r.place; true_here = r.true_here; none_before = (hb, r.none_before) }
 
--- a call answers the first number of document 01's order that applies
+-- a call answers the first number of the order that applies
 pub in_order : (rows : List Check) {k : ℕ} → refusal rows ≡ k → (k ≡ 0 → ⊥) → First (applies rows) order k
 unfolding refusal
 in_order rows {k} e h = first_of (applies rows) order k e h

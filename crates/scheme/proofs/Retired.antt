@@ -1,4 +1,4 @@
--- T-06: 4 never applied, so the table without it gives the numbers that the table with it gave.
+-- 4 is retired, since it never applied, so the table without it gives the numbers that the table with it gave.
 --     one_level_fits   whatever passes 1 to 3 has room for one level
 --     same_first       the first number is the same with 4 and without it
 --     never_given      4 is no refusal of any call
@@ -22,7 +22,7 @@ use Rattle.scheme.proofs.Checks.{base_log_ok, modulus_ok, base_ok}
 use Rattle.scheme.proofs.Modulus.{bits_cover}
 use Rattle.scheme.proofs.Order.{has, neither}
 
--- document 01 numbers its checks in the order in which they are judged
+-- the table numbers its checks in the order in which they are judged
 pub numbered : order_with_four ≡ tabulate 17 (λ i. i + 1)
 unfolding tabulate
 numbered = refl

@@ -14,7 +14,7 @@ abbrev pub row : Bool → ℕ → Check
 row b k = record { fails = b; number = k }
 
 -- "Checks, in order": the order in which numbers are judged, stated here and nowhere else. First come numbers and lengths, judged
--- before a word of a lent buffer is read; then what is read there. 4 is retired (T-06): no check ever bears it again.
+-- before a word of a lent buffer is read; then what is read there. 4 is retired: no check ever bears it again.
 abbrev pub sizes : List ℕ
 sizes = 1 ∷ 2 ∷ 3 ∷ 5 ∷ 6 ∷ 7 ∷ 8 ∷ 9 ∷ 10 ∷ 11 ∷ 12 ∷ 13 ∷ []
 
@@ -33,7 +33,7 @@ unfoldable pub first_in : (ℕ → Bool) → List ℕ → ℕ
 first_in f [] = 0
 first_in f (k ∷ ks) = pick (f k) k (first_in f ks)
 
--- "the first refusal number that applies, in the order of document 01", or 0
+-- "the first refusal number that applies, in the order", or 0
 unfoldable pub refusal : List Check → ℕ
 refusal rows = first_in (applies rows) order
 

@@ -1,10 +1,10 @@
--- "Any modulus that passes checks 1 to 3 has room for one level" (T-06): the table as it was with 4, for one theorem only.
+-- "Any modulus that passes checks 1 to 3 has room for one level": the table as it was with 4, for one theorem only.
 use Rattle.std.specs.Prelude.{Bool, List, ◌∷◌, ℕ, ltb, drop}
 use Rattle.scheme.specs.Modulus.{Modulus, bits}
 use Rattle.scheme.specs.Basis.{full_count}
 use Rattle.scheme.specs.Checks.{Check, row, order, applies, first_in}
 
--- document 01's order, with 4 after 3
+-- the order, with 4 after 3
 abbrev pub order_with_four : List ℕ
 order_with_four = 1 ∷ 2 ∷ 3 ∷ 4 ∷ drop 3 order
 

@@ -1,4 +1,4 @@
--- Every choice of the key's masks, and demand 3. That an explicit modulus is a word of 32 bits is what its type says.
+-- Every choice of the key's masks, and when two outputs agree under each of them. That an explicit modulus is a word of 32 bits is what its type says.
 --     generate_any_masks   once `generate` accepts one list of masks it accepts every list of as many words below q
 --     batch_any_masks      a batch that is accepted with one key is accepted with the key generated from any masks below q
 --     every_choice         so for each such list both calls write: a key, and an output for each of two batches
@@ -82,7 +82,7 @@ module _ (P : LweKeySwitchingParameters) (word : Fits 32 (meant P.basis.modulus)
       (words_fit (q_in P) made (generated-below b (n_in P) (m_in P) s s' e masks l q w)) (no 10 tt) (no 11 tt)
       (neither (words_fail (q_in P) key) (words_fail (q_in P) X) (no 14 tt)).1
 
-  -- demand 3 over the definitions, for batches that are accepted with any keys
+  -- the same over the definitions, for batches that are accepted with any keys
   pub demand_3_accepted : (s s' e : ℕ → ℤ) (keyX X : List ℕ) (roomX : ℕ) (keyY Y : List ℕ) (roomY : ℕ)
       → refusal (batch_rows P keyX X roomX) ≡ 0 → refusal (batch_rows P keyY Y roomY) ≡ 0
       → (t u : ℕ) → t < length X / (n_in P + 1) → u < length Y / (n_in P + 1)

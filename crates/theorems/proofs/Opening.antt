@@ -51,7 +51,7 @@ use Rattle.theorems.specs.Phases.{HasPhase}
 use Rattle.theorems.proofs.Calls.{written, settled, told, words_fit, length_fit}
 use Rattle.theorems.proofs.Encryption.{encrypt_phase, batch_masks}
 
--- what is_good answers of a tag that an encryption gave: where it is true document 01's inequality holds
+-- what is_good answers of a tag that an encryption gave: where it is true the mark's inequality holds
 pub marked_good : (E : ℕ) (m : Modulus) (t : ℕ) {tag : LweTag} → tag ≡ tag_from (Fresh E) → error_limit_fails (size_of m) E ≡ false
     → mark_answer tag m t ≡ Ok true → 2 * t * E + t < size_of m
 marked_good E m t {tag} same limit e =

@@ -1,4 +1,4 @@
--- T-06, of each call's table: with 4 it gave the number that it gives without it, whatever the call is given.
+-- 4 is retired. Of each call's table: with 4 it gave the number that it gives without it, whatever the call is given.
 -- Assumes nothing.
 use mathlib.Core.Path.{◌≡◌, refl}
 use mathlib.Core.Bool.{false}

@@ -1,7 +1,7 @@
 -- Switching with a key that `generate` wrote. That an explicit modulus is a word of 32 bits is what its type says.
---     switch_phase         one switch: output phase = input phase + error modulo q, and the error is within document 01's bound
+--     switch_phase         one switch: output phase = input phase + error modulo q, and the error is within the stated bound
 --     batch_switch_phase   the same of row t of a batch, whatever the other rows hold
---     taken_cong           s taken as document 01 says agrees with s modulo q, and a word so taken is the nearer to zero: taken_least
+--     taken_cong           s taken as the bound takes it agrees with s modulo q, and a word so taken is the nearer to zero: taken_least
 -- The laws behind them speak of the definitions, where the calls have no refusal.
 -- Assumes nothing.
 use mathlib.Core.Path.{◌≡◌, sym}

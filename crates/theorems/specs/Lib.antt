@@ -1,4 +1,4 @@
--- What the theorems about calls say, in document 01's letters.
+-- What the theorems about calls say, in the scheme's letters.
 pub mod Phases
 pub mod Switched
 pub mod Choices

@@ -15,5 +15,5 @@ pub record Rebuilds (b : Basis) (a : ℕ) (w : ℕ → ℕ) : Type 0 where
   pub rebuilds : Cong b.modulus (pos a) (sum_to b.levels (λ j. pos (w j) *ℤ pos (weight b j)) +ℤ rounding b a)
   -- and ε is within H;
   pub within : nat_abs (rounding b a) ≤ bound b
-  -- the numbers that they stand for are document 01's digits
+  -- the numbers that they stand for are the scheme's digits
   pub digits : Digits b a (λ j. read_back b (w j))
