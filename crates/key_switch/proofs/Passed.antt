@@ -44,7 +44,7 @@ module _ (P : LweKeySwitchingParameters) (key input : List ℕ) (room : ℕ) whe
         words = words_ok _ input words.1;
       }
 
-  batch_passed : refusal (batch_rows P key input room) ≡ 0 → Switchable P key input (length input / (n_in P + 1)) room
+  pub batch_passed : refusal (batch_rows P key input room) ≡ 0 → Switchable P key input (length input / (n_in P + 1)) room
   batch_passed e =
       let no = passed (batch_rows P key input room) e in
       switchable _ _ _ e (batch_whole (length input) (n_in P) (no 10 tt)) (length_ok _ _ (no 11 tt))
