@@ -1,7 +1,7 @@
 #!/usr/bin/env python3
 """Holds docs/CALLS.md to the crates: fails where a call, its numbers or its promise's name differ.
 
-A table of CALLS.md stands under a heading `## CRATE: ..` (saigagalena: the crates of that beginning), a row a call: names | operands | numbers | promise. Checked:
+A table of CALLS.md stands under a heading `## CRATE: ..`, a row a call: names | operands | numbers | promise. Checked:
 - each public function of the crate is named in one row, and each name of a row is a public function of the crate;
 - the first name of the promise column stands in the contract of each call of the row;
 - the promise column says what the tag is where the promise is one of `WritesTagged`, as its definition has it, and only there;
@@ -35,13 +35,11 @@ def functions(crate):
     """The public functions of a crate: name (with its type, if it is a method), contract, and where its names come from."""
     found = {}
     paths = (ROOT / 'crates' / crate / 'src').rglob('*.rt')
-    if crate == 'saigagalena':
-        paths = (ROOT / 'crates').glob('saigagalena_*/src/*.rt')
     for path in sorted(paths):
         text = comments_out(path.read_text(), '//')
         names = imported(text)
         for m in FUNCTION.finditer(text):
-            owner = re.findall(r'^impl (\w+)', text[:m.start()], re.M) if m.group(1) else []
+            owner = re.findall(r'^impl(?:<[^>]*>)? (\w+)', text[:m.start()], re.M) if m.group(1) else []
             name = (owner[-1] + '::' if owner else '') + m.group(2)
             body = re.search(r'^%s\{| \{$' % m.group(1), text[m.end():], re.M)
             found[name] = text[m.end():m.end() + body.start()], names
