@@ -1,180 +1,145 @@
 // Compares the calls with data/lwe.bin and data/switch.bin, which scripts/lwe_vectors.py and switch_vectors.py make from
-// document 01 and describe, and with data/oracle.bin, which holds what the Rust answered (oracle/sample.py).
+// the definition of the scheme and describe, and with data/oracle.bin, which holds what the Rust answered (oracle/sample.py).
 #![tactic(auto)]
 
+mod kind;
 mod lattice;
 mod packed;
-mod parameters;
 mod record;
 mod said;
 mod single;
 mod switch;
 
-use record::{Head, Lengths};
+use kind::{KINDS, Kind};
+use record::{Head, Record};
 use said::Said;
-use std::io::Read;
+use std::alloc::Global;
+use std::io;
+use std::io::{BufReader, ErrorKind, Read};
 use std::rt::Files;
 
-// The call of a record, on operands of the record's lengths.
-fn call(h: Head, a: &[u32], b: &[u32], c: &[u32], d: &[i32], e: &[i32], out: &mut [u32]) -> Said {
-    let kind = h.kind;
+// The call of a record, which writes to `out`.
+fn call(kind: Kind, r: &Record, out: &mut [u32]) -> Said {
     match kind {
-        1..=5 => lattice::beside(h, a, b, c),
-        6 | 7 => lattice::ciphertexts(h, a, b, c, out),
-        8 | 9 | 12 | 13 | 23..=26 => single::encrypt(h, a, b, d, e, out),
-        10 | 11 | 14 | 15 => single::decrypt(h, a, b, d),
-        16..=22 => packed::call(h, a, b, c, e, out),
-        _ => switch::said(h, a, b, c, d, e, out),
+        Kind::Dimension => lattice::dimension(r.head),
+        Kind::EncryptionParameters => lattice::encryption_parameters(r.head),
+        Kind::Parameters => lattice::parameters(r.head),
+        Kind::TallySum => lattice::tally_sum(r),
+        Kind::Mark => lattice::mark(r),
+        Kind::Sum => lattice::sum(r, out),
+        Kind::Sample => lattice::sample(r, out),
+        Kind::EncryptEncoded(form) => single::encrypt_encoded(r, form, out),
+        Kind::Phase(form) => single::phase(r, form),
+        Kind::EncryptMessage(form) => single::encrypt_message(r, form, out),
+        Kind::DecryptMessage(form) => single::decrypt_message(r, form),
+        Kind::PackEncoded => packed::encrypt_encoded(r, out),
+        Kind::PackedPhases => packed::phases(r, out),
+        Kind::BatchPhases => packed::batch_phases(r, out),
+        Kind::PackMessages => packed::encrypt_messages(r, out),
+        Kind::PackedMessages => packed::messages(r, out),
+        Kind::EncryptBatch => packed::encrypt_batch(r, out),
+        Kind::BatchMessages => packed::batch_messages(r, out),
+        Kind::PublicKey(form) => single::public_key(r, form, out),
+        Kind::PublicEncoded => single::public_encoded(r, out),
+        Kind::PublicMessage => single::public_message(r, out),
+        Kind::SwitchParameters => switch::parameters(r.head),
+        Kind::SwitchingKey(form) => switch::key(r, form, out),
+        Kind::Switch => switch::single(r, out),
+        Kind::SwitchBatch => switch::batch(r, out),
+        Kind::Entry => switch::entry(r, out),
     }
 }
 
-// The rooms cut to the record's lengths.
-fn cut(
-    h: Head,
-    l: Lengths,
-    a: &[u32],
-    b: &[u32],
-    c: &[u32],
-    d: &[i32],
-    e: &[i32],
-    out: &mut [u32],
-) -> Said {
-    let la = programs::at_most(l.a, a.len());
-    let lb = programs::at_most(l.b, b.len());
-    let lc = programs::at_most(l.c, c.len());
-    let ld = programs::at_most(l.d, d.len());
-    let le = programs::at_most(l.e, e.len());
-    let lo = programs::at_most(l.out, out.len());
-    call(
-        h,
-        &a[0..la],
-        &b[0..lb],
-        &c[0..lc],
-        &d[0..ld],
-        &e[0..le],
-        &mut out[0..lo],
-    )
+// The call said what the record says, and left its buffer so.
+fn agrees(record: &Record) -> io::Result<bool> {
+    let head = record.head;
+    let Ok(kind) = Kind::try_from(head.kind) else {
+        return Ok(false);
+    };
+    let mut out = record.before.clone()?;
+    let said = call(kind, record, &mut out);
+    Ok(said::agrees(said, head) && out == record.after)
 }
 
-// There was room for the operands, and the call said what the record says.
-fn agrees(h: Head, l: Lengths, s: Said) -> bool {
-    record::fit(l) && s.refusal == h.refusal && s.value == h.answer
+// What comes next in a file.
+enum Outcome {
+    Equal(u32),
+    Differs(u32),
+    End,
 }
 
-fn right(h: Head, l: Lengths, bytes: &[u8; 65536]) -> bool {
-    let p = record::places_of(l, h.refusal);
-    let a = record::words(bytes, 0);
-    let b = record::words(bytes, p.b);
-    let c = record::words(bytes, p.c);
-    let d = record::numbers(bytes, p.d);
-    let e = record::numbers(bytes, p.e);
-    let mut out = record::words(bytes, p.before);
-    let after = record::words(bytes, p.after);
-    let s = cut(h, l, &a, &b, &c, &d, &e, &mut out);
-    agrees(h, l, s) & programs::same(&out, &after, l.out)
-}
-
-// The words of a record, read and compared.
-fn compared(input: &mut impl Read, h: Head, l: Lengths) -> bool {
-    let mut bytes = [0u8; 65536];
-    let p = record::places_of(l, h.refusal);
-    let end = p.end;
-    if 65536 < end {
-        return false;
+fn turn(alloc: Global, input: &mut impl Read) -> io::Result<Outcome> {
+    let head = Head::read(input)?;
+    if head.kind == 0 {
+        return Ok(Outcome::End);
     }
-    if programs::read_full(input, &mut bytes[0..end]) < end {
-        return false;
-    }
-    right(h, l, &bytes)
-}
-
-#[derive(Clone, Copy)]
-struct Outcome {
-    kind: u32,
-    right: bool,
-}
-
-// One record, or kind 0 at the end; a file that breaks off counts as a record that differs.
-fn turn(input: &mut impl Read) -> Outcome {
-    let mut r = [0u8; 60];
-    if programs::read_full(input, &mut r) < 60 {
-        return Outcome {
-            kind: 0,
-            right: false,
-        };
-    }
-    let h = record::head_of(&r);
-    let kind = h.kind;
-    if kind == 0 {
-        return Outcome {
-            kind: 0,
-            right: true,
-        };
-    }
-    Outcome {
-        kind,
-        right: compared(input, h, record::lengths_of(&r)),
+    let record = Record::read(alloc, input, head)?;
+    if agrees(&record)? {
+        Ok(Outcome::Equal(head.kind))
+    } else {
+        Ok(Outcome::Differs(head.kind))
     }
 }
 
-fn say(rt: &impl Print, name: &[u8], n: u32) {
-    programs::say(rt, name, n as u64);
-}
-
-fn differs(rt: &impl Print, number: u32, kind: u32) {
-    say(rt, b"first that differs: record ", number);
-    say(rt, b"of kind ", kind);
-}
-
-fn count(counts: &mut [u32; 40], kind: u32) {
-    let k = kind as usize;
-    if k < 40 {
-        counts[k] = std::num::wrapping_add_u32(counts[k], 1);
+// A file that breaks off counts as a record that differs.
+fn whole(turn: io::Result<Outcome>) -> io::Result<Outcome> {
+    match turn {
+        Err(e) if e.kind() == ErrorKind::UnexpectedEof => Ok(Outcome::Differs(0)),
+        other => other,
     }
 }
+
+// How many records of each kind were equal, by its number.
+type Counts = [u32; KINDS + 1];
 
 // Compares records up to the first that differs; the answer is whether all are equal.
-fn all(rt: &impl Print, input: &mut impl Read, counts: &mut [u32; 40]) -> bool {
-    let mut number = 0;
-    while number < u32::MAX {
-        let t = turn(input);
-        if !t.right {
-            differs(rt, number, t.kind);
-            return false;
+fn all(
+    rt: &impl Print,
+    alloc: Global,
+    input: &mut impl Read,
+    counts: &mut Counts,
+) -> io::Result<bool> {
+    for number in 0..u32::MAX {
+        match whole(turn(alloc, input))? {
+            Outcome::End => return Ok(true),
+            Outcome::Differs(kind) => {
+                println!(rt; "first that differs: record {number}\nof kind {kind}")?;
+                return Ok(false);
+            }
+            Outcome::Equal(kind) => {
+                if let Some(count) = counts.get_mut(kind as usize) {
+                    *count = count.wrapping_add(1);
+                }
+            }
         }
-        if t.kind == 0 {
-            return true;
-        }
-        count(counts, t.kind);
-        number += 1;
     }
-    false
-}
-
-fn print(rt: &impl Print, counts: [u32; 40]) {
-    let mut kind = 1;
-    while kind < 33 {
-        programs::print(rt, b"kind ", kind as u64);
-        say(rt, b": ", counts[kind]);
-        kind += 1;
-    }
+    Ok(false)
 }
 
 // Every record of a file is equal.
-fn file(rt: &(impl Files + Print + Eprint), path: &[u8], counts: &mut [u32; 40]) -> bool {
+fn file(
+    rt: &(impl Files + Print + Eprint),
+    alloc: Global,
+    path: &[u8],
+    counts: &mut Counts,
+) -> io::Result<bool> {
     match programs::open(rt, path) {
-        Some(mut file) => all(rt, &mut file, counts),
-        None => false,
+        Some(file) => all(rt, alloc, &mut BufReader::new(alloc, file)?, counts),
+        None => Ok(false),
     }
 }
 
-fn main(rt: HostRuntime) {
-    let mut counts = [0u32; 40];
-    let encryption = file(&rt, b"lwe.bin", &mut counts);
-    let switching = file(&rt, b"switch.bin", &mut counts);
-    let rust = file(&rt, b"oracle.bin", &mut counts);
-    print(&rt, counts);
-    if encryption && switching && rust {
-        programs::write(&rt, b"all equal\n");
+fn main(rt: HostRuntime) -> io::Result<()> {
+    let alloc = rt.alloc();
+    let mut counts = [0; KINDS + 1];
+    let encryption = file(&rt, alloc, b"lwe.bin", &mut counts)?;
+    let switching = file(&rt, alloc, b"switch.bin", &mut counts)?;
+    let rust = file(&rt, alloc, b"oracle.bin", &mut counts)?;
+    for (kind, count) in counts.iter().enumerate().skip(1) {
+        println!(rt; "kind {kind}: {count}")?;
     }
+    if encryption && switching && rust {
+        println!(rt; "all equal")?;
+    }
+    Ok(())
 }

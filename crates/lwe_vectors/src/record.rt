@@ -1,159 +1,169 @@
 // A record: the head, and the words that follow it.
+use lwe_parameters::{
+    LweDecryptionParameters, LweEncryptionParameters, LweParameters, LwePhaseParameters,
+};
 use primus_encoding::PlaintextEmbedding;
+use primus_lattice::LweDimension;
 use primus_reduce::Modulus;
+use std::alloc::Global;
+use std::io;
+use std::io::Read;
+
+const HEAD: usize = 60;
 
 #[derive(Clone, Copy)]
 pub(crate) struct Head {
+    // The number of its kind, 0 at the end of the file.
     pub(crate) kind: u32,
     pub(crate) modulus: Modulus,
     pub(crate) n: usize,
     pub(crate) t: u32,
     pub(crate) error_limit: u32,
     pub(crate) embedding: PlaintextEmbedding,
+    // The number of the refusal and what is answered; 0 where there is none.
     pub(crate) refusal: u32,
     pub(crate) value: u32,
     pub(crate) answer: u32,
     pub(crate) m: usize,
     pub(crate) base_log: u32,
     pub(crate) levels: u32,
+    lengths: Lengths,
 }
 
 // How many words each operand has.
 #[derive(Clone, Copy)]
-pub(crate) struct Lengths {
-    pub(crate) a: usize,
-    pub(crate) b: usize,
-    pub(crate) c: usize,
-    pub(crate) d: usize,
-    pub(crate) e: usize,
-    pub(crate) out: usize,
+struct Lengths {
+    a: usize,
+    b: usize,
+    c: usize,
+    d: usize,
+    e: usize,
+    out: usize,
 }
 
-// Where the operands begin, in bytes; `end` is past the last.
-#[derive(Clone, Copy)]
-pub(crate) struct Places {
-    pub(crate) b: usize,
-    pub(crate) c: usize,
-    pub(crate) d: usize,
-    pub(crate) e: usize,
-    pub(crate) before: usize,
-    pub(crate) after: usize,
-    pub(crate) end: usize,
+// What a call is lent, and its buffer before and after it.
+#[derive(Drop)]
+pub(crate) struct Record {
+    pub(crate) head: Head,
+    pub(crate) a: Vec<u32>,
+    pub(crate) b: Vec<u32>,
+    pub(crate) c: Vec<u32>,
+    pub(crate) d: Vec<i32>,
+    pub(crate) e: Vec<i32>,
+    pub(crate) before: Vec<u32>,
+    pub(crate) after: Vec<u32>,
 }
 
-fn embedding(r: &[u8]) -> PlaintextEmbedding {
-    if little_endian::u8_at(r, 22) == 0 {
-        return PlaintextEmbedding::Unsigned;
-    }
-    PlaintextEmbedding::Centered
-}
-
-pub(crate) fn head_of(r: &[u8]) -> Head {
-    let modulus = programs::modulus_at(r, 1);
-    let embedding = embedding(r);
-    Head {
-        kind: little_endian::u8_at(r, 0),
-        modulus,
-        n: little_endian::u64_at(r, 6) as usize,
-        t: little_endian::u32_at(r, 14),
-        error_limit: little_endian::u32_at(r, 18),
-        embedding,
-        refusal: little_endian::u8_at(r, 23),
-        value: little_endian::u32_at(r, 24),
-        answer: little_endian::u32_at(r, 28),
-        m: little_endian::u64_at(r, 44) as usize,
-        base_log: little_endian::u32_at(r, 52),
-        levels: little_endian::u32_at(r, 56),
+fn embedding(number: u32) -> PlaintextEmbedding {
+    match number {
+        0 => PlaintextEmbedding::Unsigned,
+        _ => PlaintextEmbedding::Centered,
     }
 }
 
-// Two bytes; past the end every byte is 0.
-fn u16_at(r: &[u8], i: usize) -> usize {
-    (little_endian::u32_at(r, i) % 65536) as usize
+// Two bytes.
+fn length(bytes: &[u8], i: usize) -> usize {
+    (little_endian::u32_at(bytes, i) % 65536) as usize
 }
 
-pub(crate) fn lengths_of(r: &[u8]) -> Lengths {
-    Lengths {
-        a: u16_at(r, 32),
-        b: u16_at(r, 34),
-        c: u16_at(r, 36),
-        d: u16_at(r, 38),
-        e: u16_at(r, 40),
-        out: u16_at(r, 42),
+impl Head {
+    fn of(bytes: &[u8]) -> Head {
+        Head {
+            kind: little_endian::u8_at(bytes, 0),
+            modulus: programs::modulus_at(bytes, 1),
+            n: little_endian::u64_at(bytes, 6) as usize,
+            t: little_endian::u32_at(bytes, 14),
+            error_limit: little_endian::u32_at(bytes, 18),
+            embedding: embedding(little_endian::u8_at(bytes, 22)),
+            refusal: little_endian::u8_at(bytes, 23),
+            value: little_endian::u32_at(bytes, 24),
+            answer: little_endian::u32_at(bytes, 28),
+            m: little_endian::u64_at(bytes, 44) as usize,
+            base_log: little_endian::u32_at(bytes, 52),
+            levels: little_endian::u32_at(bytes, 56),
+            lengths: Lengths {
+                a: length(bytes, 32),
+                b: length(bytes, 34),
+                c: length(bytes, 36),
+                d: length(bytes, 38),
+                e: length(bytes, 40),
+                out: length(bytes, 42),
+            },
+        }
+    }
+
+    // The parameters, which no try_new has judged: each call judges them by itself.
+    pub(crate) fn parameters(self) -> LweParameters {
+        LweParameters {
+            dimension: LweDimension::given(self.n),
+            modulus: self.modulus,
+            plaintext_modulus: self.t,
+            error_limit: self.error_limit,
+        }
+    }
+
+    pub(crate) fn encryption_parameters(self) -> LweEncryptionParameters {
+        LweEncryptionParameters {
+            dimension: LweDimension::given(self.n),
+            modulus: self.modulus,
+            error_limit: self.error_limit,
+        }
+    }
+
+    pub(crate) fn decryption_parameters(self) -> LweDecryptionParameters {
+        self.parameters().into()
+    }
+
+    pub(crate) fn phase_parameters(self) -> LwePhaseParameters {
+        self.decryption_parameters().into()
+    }
+
+    pub(crate) fn read(input: &mut impl Read) -> io::Result<Head> {
+        let mut bytes = [0; HEAD];
+        input.read_exact(&mut bytes)?;
+        Ok(Head::of(&bytes))
     }
 }
 
-// There is room for every operand.
-pub(crate) fn fit(l: Lengths) -> bool {
-    l.a <= 8192 && l.b <= 8192 && l.c <= 8192 && l.d <= 2048 && l.e <= 2048 && l.out <= 8192
+fn words(alloc: Global, input: &mut impl Read, count: usize) -> io::Result<Vec<u32>> {
+    let mut words = Vec::with_capacity(alloc, count)?;
+    for _ in 0..count {
+        let mut word = [0; 4];
+        input.read_exact(&mut word)?;
+        words.push(u32::from_le_bytes(word))?;
+    }
+    Ok(words)
 }
 
-// `count` words after `at`.
-fn past(at: usize, count: usize) -> usize {
-    let two = std::num::wrapping_add_usize(count, count);
-    std::num::wrapping_add_usize(at, std::num::wrapping_add_usize(two, two))
+// Each word as the signed number of the same bits.
+fn numbers(alloc: Global, input: &mut impl Read, count: usize) -> io::Result<Vec<i32>> {
+    let words = words(alloc, input, count)?;
+    Ok(words.iter().map(|w| w.cast_signed()).collect(alloc)?)
 }
 
-// A refused call leaves its buffer: the words after it are those before it.
-pub(crate) fn places_of(l: Lengths, refusal: u32) -> Places {
-    let b = past(0, l.a);
-    let c = past(b, l.b);
-    let d = past(c, l.c);
-    let e = past(d, l.d);
-    let before = past(e, l.e);
-    let written = past(before, l.out);
-    if refusal == 0 {
-        return Places {
+impl Record {
+    // The words of a head. A refused call leaves its buffer: the words after it are those before it.
+    pub(crate) fn read(alloc: Global, input: &mut impl Read, head: Head) -> io::Result<Record> {
+        let lengths = head.lengths;
+        let a = words(alloc, input, lengths.a)?;
+        let b = words(alloc, input, lengths.b)?;
+        let c = words(alloc, input, lengths.c)?;
+        let d = numbers(alloc, input, lengths.d)?;
+        let e = numbers(alloc, input, lengths.e)?;
+        let before = words(alloc, input, lengths.out)?;
+        let after = match head.refusal {
+            0 => words(alloc, input, lengths.out)?,
+            _ => before.clone()?,
+        };
+        Ok(Record {
+            head,
+            a,
             b,
             c,
             d,
             e,
             before,
-            after: written,
-            end: past(written, l.out),
-        };
+            after,
+        })
     }
-    Places {
-        b,
-        c,
-        d,
-        e,
-        before,
-        after: before,
-        end: written,
-    }
-}
-
-// Words of the record from `from` on.
-pub(crate) fn words(bytes: &[u8; 65536], from: usize) -> [u32; 8192] {
-    let mut room = [0u32; 8192];
-    let mut i = 0;
-    let mut at = from;
-    while i < 8192 {
-        room[i] = little_endian::u32_at(bytes, at);
-        at = std::num::wrapping_add_usize(at, 4);
-        i += 1;
-    }
-    room
-}
-
-// A word as the signed number of the same bits.
-fn signed(w: u32) -> i32 {
-    if w < 0x8000_0000 {
-        return w as i32;
-    }
-    let m = 0xffff_ffff - w;
-    !(m as i32)
-}
-
-pub(crate) fn numbers(bytes: &[u8; 65536], from: usize) -> [i32; 2048] {
-    let mut room = [0i32; 2048];
-    let mut i = 0;
-    let mut at = from;
-    while i < 2048 {
-        room[i] = signed(little_endian::u32_at(bytes, at));
-        at = std::num::wrapping_add_usize(at, 4);
-        i += 1;
-    }
-    room
 }

@@ -1,62 +1,38 @@
-// What a call said: its refusal, or 0, and its answer, or 0.
-use primus_lattice::{LweAnswer, LweTag};
+// What a call said: its answer, or 0, or its refusal; none where what it wrote has another tag than it must have, or where a
+// part is not as it must be. That equals no record.
+use crate::record::Head;
+use check_order::Refusal;
+use primus_lattice::LweTag;
 
-#[derive(Clone, Copy)]
-pub(crate) struct Said {
-    pub(crate) refusal: u32,
-    pub(crate) value: u32,
-}
+pub(crate) type Said = Option<Result<u32, Refusal>>;
 
-// No call was made: this equals no record.
-pub(crate) fn nothing() -> Said {
-    Said {
-        refusal: 999,
-        value: 0,
+// The call said what a record says.
+pub(crate) fn agrees(said: Said, head: Head) -> bool {
+    match said {
+        Some(Ok(value)) => head.refusal == 0 && head.answer == value,
+        Some(Err(refusal)) => head.refusal == refusal.number() && head.answer == 0,
+        None => false,
     }
 }
 
 // A call that answers by its refusal alone.
-pub(crate) fn number(refusal: u32) -> Said {
-    Said { refusal, value: 0 }
+pub(crate) fn done(answer: Result<(), Refusal>) -> Said {
+    Some(answer.map(|_| 0))
 }
 
-// A call that writes ciphertexts: with another tag than expected it equals no record.
-pub(crate) fn written(answer: LweAnswer, expected: LweTag) -> Said {
+pub(crate) fn holds(answer: Result<bool, Refusal>) -> Said {
+    Some(answer.map(|b| u32::from(b)))
+}
+
+// A call that writes ciphertexts, all with this tag.
+pub(crate) fn written(answer: Result<LweTag, Refusal>, expected: LweTag) -> Said {
     match answer {
-        LweAnswer::Written(tag) => {
-            if tag.number() != expected.number() {
-                return nothing();
-            }
-            number(0)
-        }
-        LweAnswer::Refused(r) => refused(r),
+        Ok(tag) => (tag.number() == expected.number()).then_some(Ok(0)),
+        Err(refusal) => Some(Err(refusal)),
     }
 }
 
-// "A fresh single secret-key ciphertext has tally E; a public-key, packed or switched one has none."
-pub(crate) fn fresh(error_limit: u32) -> LweTag {
-    LweTag::with_tally(error_limit as u64)
-}
-
-pub(crate) fn none() -> LweTag {
-    LweTag::with_tally(u64::MAX)
-}
-
-pub(crate) fn value(value: u32) -> Said {
-    Said { refusal: 0, value }
-}
-
-// An answer `Refused(0)` would be wrong.
-pub(crate) fn refused(refusal: u32) -> Said {
-    if refusal == 0 {
-        return nothing();
-    }
-    Said { refusal, value: 0 }
-}
-
-pub(crate) fn holds(b: bool) -> Said {
-    if b {
-        return value(1);
-    }
-    value(0)
+// A fresh ciphertext under a secret key has tally E; a public-key, packed or switched one has none.
+pub(crate) fn fresh(head: Head) -> LweTag {
+    LweTag::with_tally(u64::from(head.error_limit))
 }

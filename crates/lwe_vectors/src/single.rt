@@ -1,73 +1,55 @@
-// One ciphertext: kinds 8 to 15 under a secret key, the odd ones under a signed one; kinds 23 to 26 with a public key.
-use crate::record::Head;
+// One ciphertext, under a secret key: mask b, errors e, the plaintext or the message, the ciphertext in out; or the ciphertext b.
+// With a public key: errors e, coefficients d, the key a.
+use crate::kind::Form;
+use crate::record::Record;
+use crate::said;
 use crate::said::Said;
-use crate::{parameters, said};
-use checks::WordAnswer;
-use primus_lattice::LweAnswer;
+use primus_lattice::LweTag;
 use primus_lwe_public_key::LwePublicKey;
 
-fn word(answer: WordAnswer) -> Said {
-    match answer {
-        WordAnswer::Word(x) => said::value(x),
-        WordAnswer::Refused(n) => said::refused(n),
-    }
+pub(crate) fn encrypt_encoded(r: &Record, form: Form, out: &mut [u32]) -> Said {
+    let h = r.head;
+    let key = form.key(r);
+    let params = h.encryption_parameters();
+    let answer = primus_lwe::encrypt_encoded_to(params, key, &r.b, &r.e, h.value, out);
+    said::written(answer, said::fresh(h))
 }
 
-// Under words a or signed numbers d: mask b, errors e, the plaintext or the message, the ciphertext in out.
-fn under_secret(h: Head, a: &[u32], b: &[u32], d: &[i32], e: &[i32], out: &mut [u32]) -> LweAnswer {
-    let p = parameters::encryption(h);
-    let params = parameters::message(h);
-    let embedding = h.embedding;
-    let x = h.value;
-    let kind = h.kind;
-    match kind {
-        8 => primus_lwe::encrypt_encoded_to(p, a, b, e, x, out),
-        9 => primus_lwe::encrypt_encoded_signed_to(p, d, b, e, x, out),
-        12 => primus_lwe::encrypt_message_to(params, embedding, a, b, e, x, out),
-        _ => primus_lwe::encrypt_message_signed_to(params, embedding, d, b, e, x, out),
-    }
+pub(crate) fn encrypt_message(r: &Record, form: Form, out: &mut [u32]) -> Said {
+    let h = r.head;
+    let key = form.key(r);
+    let params = h.parameters();
+    let answer = primus_lwe::encrypt_message_to(params, h.embedding, key, &r.b, &r.e, h.value, out);
+    said::written(answer, said::fresh(h))
 }
 
-// Under the public key a: errors e, coefficients d.
-fn under_public(h: Head, a: &[u32], d: &[i32], e: &[i32], out: &mut [u32]) -> LweAnswer {
-    let p = parameters::encryption(h);
-    let params = parameters::message(h);
-    let embedding = h.embedding;
-    let x = h.value;
-    if h.kind == 25 {
-        return LwePublicKey::encrypt_encoded_to(p, a, e, d, x, out);
-    }
-    LwePublicKey::encrypt_message_to(params, embedding, a, e, d, x, out)
+pub(crate) fn phase(r: &Record, form: Form) -> Said {
+    Some(primus_lwe::decrypt_phase(r.head.phase_parameters(), form.key(r), &r.b))
+}
+
+pub(crate) fn decrypt_message(r: &Record, form: Form) -> Said {
+    Some(primus_lwe::decrypt_message(r.head.decryption_parameters(), form.key(r), &r.b))
 }
 
 // A public key from a secret: masks b, errors e.
-pub(crate) fn encrypt(
-    h: Head,
-    a: &[u32],
-    b: &[u32],
-    d: &[i32],
-    e: &[i32],
-    out: &mut [u32],
-) -> Said {
-    let p = parameters::encryption(h);
-    let kind = h.kind;
-    match kind {
-        23 => said::number(LwePublicKey::generate(p, a, b, e, out)),
-        24 => said::number(LwePublicKey::generate_signed(p, d, b, e, out)),
-        25 | 26 => said::written(under_public(h, a, d, e, out), said::none()),
-        _ => said::written(under_secret(h, a, b, d, e, out), said::fresh(h.error_limit)),
-    }
+pub(crate) fn public_key(r: &Record, form: Form, out: &mut [u32]) -> Said {
+    let params = r.head.encryption_parameters();
+    said::done(LwePublicKey::generate(params, form.key(r), &r.b, &r.e, out))
 }
 
-// The ciphertext b, under words a or signed numbers d.
-pub(crate) fn decrypt(h: Head, a: &[u32], b: &[u32], d: &[i32]) -> Said {
-    let opened = parameters::decryption(h);
-    let phases = opened.phase_parameters();
-    let kind = h.kind;
-    match kind {
-        10 => word(primus_lwe::decrypt_phase(phases, a, b)),
-        11 => word(primus_lwe::decrypt_phase_signed(phases, d, b)),
-        14 => word(primus_lwe::decrypt_message(opened, a, b)),
-        _ => word(primus_lwe::decrypt_message_signed(opened, d, b)),
-    }
+pub(crate) fn public_encoded(r: &Record, out: &mut [u32]) -> Said {
+    let h = r.head;
+    let params = h.encryption_parameters();
+    let answer = LwePublicKey::encrypt_encoded_to(params, &r.a, &r.e, &r.d, h.value, out);
+    said::written(answer, LweTag::none())
+}
+
+pub(crate) fn public_message(r: &Record, out: &mut [u32]) -> Said {
+    let h = r.head;
+    let params = h.parameters();
+    let embedding = h.embedding;
+    let answer = LwePublicKey::encrypt_message_to(
+        params, embedding, &r.a, &r.e, &r.d, h.value, out,
+    );
+    said::written(answer, LweTag::none())
 }

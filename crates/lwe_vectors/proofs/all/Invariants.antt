@@ -1,8 +1,0 @@
-use Rattle.std.proofs.Common.{◌-◌, ◌≤◌}
-use Rattle.lwe_vectors.proofs.all.Given as goal
-
-abbrev pub invariant-loop-number : goal.invariant-loop-number
-invariant-loop-number g l = l.number ≤ 4294967295
-
-abbrev pub decreases-loop-number : goal.decreases-loop-number
-decreases-loop-number g l = 4294967295 - l.number
