@@ -10,11 +10,11 @@ ghost use Rattle.key_switch_accumulate.specs.Rows.{Roomy, Kept, addend_of};
 use primus_reduce::Modulus;
 
 // What y leaves of q, or y.
-fn addend(opposite: bool, y: u32, q: u32) -> u32
+fn addend<const OPPOSITE: bool>(y: u32, q: u32) -> u32
     requires { y ≤ q }
-    ensures { result ≡ addend_of opposite q y }
+    ensures { result ≡ addend_of OPPOSITE q y }
 {
-    if opposite { q - y } else { y }
+    if OPPOSITE { q - y } else { y }
 }
 
 // x + a × y
@@ -35,12 +35,12 @@ fn reduce(x: u64, q: u32) -> u32
 
 // acc + a × (q − entry), which is acc − a × entry modulo q, or acc + a × entry
 #[tactic(auto, using(scheme::proofs::InPlace::filled_start, scheme::proofs::InPlace::filled_end, scheme::proofs::InPlace::length_zip))]
-fn add_multiple(acc: &mut [u64], opposite: bool, entry: &[u32], a: u32, q: u32)
+fn add_multiple<const OPPOSITE: bool>(acc: &mut [u64], entry: &[u32], a: u32, q: u32)
     requires { Roomy q a acc.old entry.now }
-    ensures { acc.new ≡ zip_with (λ x y. x + a * addend_of opposite q y) acc.old entry.now }
+    ensures { acc.new ≡ zip_with (λ x y. x + a * addend_of OPPOSITE q y) acc.old entry.now }
 {
     for (k, x) in acc.iter_mut().enumerate() {
-        let y = addend(opposite, entry[k], q);
+        let y = addend::<OPPOSITE>(entry[k], q);
         *x = more(*x, a, y);
     }
 }
@@ -51,9 +51,9 @@ pub fn accumulate_entry(acc: &mut [u64], entry: &[u32], digit: u32, half: u32, q
     ensures { Less q (half * q) digit entry.now acc.old acc.new }
 {
     if digit < half {
-        add_multiple(acc, true, entry, digit, q);
+        add_multiple::<true>(acc, entry, digit, q);
     } else {
-        add_multiple(acc, false, entry, q - digit, q);
+        add_multiple::<false>(acc, entry, q - digit, q);
     }
 }
 

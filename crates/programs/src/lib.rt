@@ -51,6 +51,7 @@ pub fn read_some(input: &mut impl Read, bytes: &mut [u8]) -> usize
 }
 
 // Reads until there is no room, the input ends or a read fails: how many bytes stand at the start.
+// Stays: a while that counts the bytes that came; `read_exact` says nothing of them where the input ends early.
 pub fn read_full(input: &mut impl Read, bytes: &mut [u8]) -> usize
     ensures { result ≤ length bytes.new }
 {
@@ -66,11 +67,7 @@ pub fn read_full(input: &mut impl Read, bytes: &mut [u8]) -> usize
 }
 
 // The first bytes of a file, as many as there is room for; none where it cannot be opened.
-pub fn read_file<'a>(
-    rt: &(impl Files + Eprint),
-    name: &str,
-    room: &'a mut [u8],
-) -> Option<&'a [u8]>
+pub fn read_file<'a>(rt: &(impl Files + Eprint), name: &str, room: &'a mut [u8]) -> Option<&'a [u8]>
     ensures { IfSome result (λ bytes. length bytes.now ≤ length room.old) }
 {
     let mut file = open_named(rt, name)?;

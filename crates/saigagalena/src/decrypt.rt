@@ -20,7 +20,11 @@ pub extern "C" fn saigagalena_decrypt_phase(
         ciphertext.now) result }
 {
     let params = c_numbers::phases_for(modulus, n);
-    c_numbers::word_number(primus_lwe::decrypt_phase(params, LweSecretKeyRef::Encoded(secret), ciphertext))
+    c_numbers::word_number(primus_lwe::decrypt_phase(
+        params,
+        LweSecretKeyRef::Encoded(secret),
+        ciphertext,
+    ))
 }
 
 // saigagalena_decrypt_phase under a signed key.
@@ -35,7 +39,11 @@ pub extern "C" fn saigagalena_decrypt_phase_signed(
         ciphertext.now) result }
 {
     let params = c_numbers::phases_for(modulus, n);
-    c_numbers::word_number(primus_lwe::decrypt_phase(params, LweSecretKeyRef::Signed(secret), ciphertext))
+    c_numbers::word_number(primus_lwe::decrypt_phase(
+        params,
+        LweSecretKeyRef::Signed(secret),
+        ciphertext,
+    ))
 }
 
 // decode of the phase, or 2^32 plus the first of 2, 6, 7, 8, 9, 10, 14 that applies.
@@ -51,7 +59,11 @@ pub extern "C" fn saigagalena_decrypt_message(
         ciphertext.now) result }
 {
     let params = c_numbers::decryption_for(modulus, n, t);
-    c_numbers::word_number(primus_lwe::decrypt_message(params, LweSecretKeyRef::Encoded(secret), ciphertext))
+    c_numbers::word_number(primus_lwe::decrypt_message(
+        params,
+        LweSecretKeyRef::Encoded(secret),
+        ciphertext,
+    ))
 }
 
 // saigagalena_decrypt_message under a signed key.
@@ -67,7 +79,11 @@ pub extern "C" fn saigagalena_decrypt_message_signed(
         ciphertext.now) result }
 {
     let params = c_numbers::decryption_for(modulus, n, t);
-    c_numbers::word_number(primus_lwe::decrypt_message(params, LweSecretKeyRef::Signed(secret), ciphertext))
+    c_numbers::word_number(primus_lwe::decrypt_message(
+        params,
+        LweSecretKeyRef::Signed(secret),
+        ciphertext,
+    ))
 }
 
 // The phase of each ciphertext. Refuses by 2, 6, 9, 10, 11, 14.

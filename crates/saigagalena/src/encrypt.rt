@@ -48,9 +48,7 @@ pub extern "C" fn saigagalena_encrypt_encoded_signed(
 {
     let params = c_numbers::encryption_for(modulus, n, error_limit);
     let secret = LweSecretKeyRef::Signed(secret);
-    LweOutcome::from(primus_lwe::encrypt_encoded_to(
-        params, secret, mask, errors, plaintext, out,
-    ))
+    LweOutcome::from(primus_lwe::encrypt_encoded_to(params, secret, mask, errors, plaintext, out))
 }
 
 // An encryption of encode(m), with tally E. Refuses by 2, 6, 7, 8, 9, 11, 12, 13, 14, 15, 16.

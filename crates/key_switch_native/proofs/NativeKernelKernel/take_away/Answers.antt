@@ -1,14 +1,5 @@
-use Rattle.std.proofs.Common.{arith, refl}
-use Rattle.scheme.proofs.InPlace.{filled_start, filled_end, zipped_next, length_zip}
-use Rattle.key_switch_native.proofs.Rows.{wrapped, same_length, less_wrapped}
+use Rattle.key_switch_native.proofs.Rows.{less_none}
 use Rattle.key_switch_native.proofs.NativeKernelKernel.take_away.Goals as goal
 
-pub loop-k-init : goal.loop-k-init
-loop-k-init c = filled_start _ _ (length_zip _ _ _ (same_length c.args.digit _ _ c.requires.same))
-
-pub loop-k-preserved : goal.loop-k-preserved
-loop-k-preserved c =
-    zipped_next (wrapped c.args.digit) _ _ _ _ (same_length c.args.digit _ _ c.requires.same) c.loop-k.invariant _ (omega arith) refl
-
-pub returns : goal.returns
-returns c = less_wrapped c.args.digit _ _ c.requires.same _ (filled_end _ _ _ _ c.loop-k.invariant (omega arith))
+pub returns-in-0 : goal.returns-in-0
+returns-in-0 c = less_none _ _ _ _ _ c.in-0.is
