@@ -59,11 +59,8 @@ pub extern "C" fn saigagalena_decrypt_message(
         ciphertext.now) result }
 {
     let params = c_numbers::decryption_for(modulus, n, t);
-    c_numbers::word_number(primus_lwe::decrypt_message(
-        params,
-        LweSecretKeyRef::Encoded(secret),
-        ciphertext,
-    ))
+    let key = LweSecretKeyRef::Encoded(secret);
+    c_numbers::word_number(primus_lwe::decrypt_message(params, key, ciphertext))
 }
 
 // saigagalena_decrypt_message under a signed key.
@@ -79,11 +76,8 @@ pub extern "C" fn saigagalena_decrypt_message_signed(
         ciphertext.now) result }
 {
     let params = c_numbers::decryption_for(modulus, n, t);
-    c_numbers::word_number(primus_lwe::decrypt_message(
-        params,
-        LweSecretKeyRef::Signed(secret),
-        ciphertext,
-    ))
+    let key = LweSecretKeyRef::Signed(secret);
+    c_numbers::word_number(primus_lwe::decrypt_message(params, key, ciphertext))
 }
 
 // The phase of each ciphertext. Refuses by 2, 6, 9, 10, 11, 14.
