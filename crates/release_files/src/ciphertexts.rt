@@ -30,12 +30,13 @@ fn open(h: Head, secret: &[u32], words: &[u32], out: &mut [u32]) -> Result<(), R
     }
 }
 
-// The messages of ciphertexts of one message each under a signed secret.
-fn open_signed(h: Head, secret: &[i32], words: &[u32], out: &mut [u32]) -> Result<(), Refusal> {
-    let params = parameters(h)?;
-    let key = LweSecretKeyRef::Signed(secret);
+// The messages of ciphertexts of one message each under a signed secret, as far as the room goes.
+fn open_signed(l: Loaded<u32>, secret: Loaded<i32>, out: &mut [u32]) -> Result<(), Fault> {
+    agrees(secret.head.words as usize <= secret.room.len())?;
+    let params = parameters(l.head)?;
+    let key = LweSecretKeyRef::Signed(secret.words);
     out.fill(NONE);
-    let rows = words.chunks_exact(h.n.saturating_add(1));
+    let rows = l.room.chunks_exact(l.head.n.saturating_add(1));
     for (message, row) in out.iter_mut().zip(rows) {
         *message = decrypt_message(params, key, row).unwrap_or(NONE);
     }
@@ -46,7 +47,7 @@ fn open_signed(h: Head, secret: &[i32], words: &[u32], out: &mut [u32]) -> Resul
 fn told_verdict(
     l: Loaded<u32>,
     beside: Loaded<u32>,
-    opening: Result<(), Refusal>,
+    opening: Result<(), Fault>,
     out: &[u32],
 ) -> Result<(), Fault> {
     l.refusal?;
@@ -61,7 +62,7 @@ fn tell(
     folder: Folder,
     name: &str,
     l: Loaded<u32>,
-    opening: Result<(), Refusal>,
+    opening: Result<(), Fault>,
     out: &[u32],
 ) -> Result<(), AllocError> {
     let mut told = [0u32; 8192];
@@ -80,7 +81,7 @@ pub(crate) fn opened(folder: Folder, name: &str, secret: &str) -> Result<(), All
     let l = folder.load(name, "", &mut words)?;
     let count = room.len().min(l.head.count as usize);
     let out = &mut room[..count];
-    let opening = open(l.head, k.words, l.words, out);
+    let opening = open(l.head, k.words, l.words, out).map_err(Fault::from);
     tell(folder, name, l, opening, out)
 }
 
@@ -90,6 +91,6 @@ pub(crate) fn opened_signed(folder: Folder, name: &str, secret: &str) -> Result<
     let mut out = [0u32; 64];
     let k = folder.load(secret, "", &mut key)?;
     let l = folder.load(name, "", &mut words)?;
-    let opening = open_signed(l.head, k.words, l.words, &mut out);
+    let opening = open_signed(l, k, &mut out);
     tell(folder, name, l, opening, &out)
 }

@@ -56,7 +56,7 @@ fn rows_verdict(h: Head, secret: &[u32], key: &[u32]) -> Result<(), Fault> {
 
 fn public_verdict(key: Loaded<u32>, secret: Loaded<u32>) -> Result<(), Fault> {
     key.refusal?;
-    rows_verdict(key.head, secret.words, key.words)?;
+    rows_verdict(key.head, secret.room, key.words)?;
     secret.refusal?;
     Ok(())
 }

@@ -23,7 +23,8 @@ pub enum Stored {
     Whole,
 }
 
-// A file's refusal and why, its head, the tag of its first ciphertext, the checksum of its bytes, and its words.
+// A file's refusal and why, its head, the tag of its first ciphertext, the checksum of its bytes, its words, and the room that they
+// stand in, with what follows them in the file and then zeros.
 #[derive(Clone, Copy)]
 pub struct Loaded<'a, W> {
     pub refusal: Result<(), Refusal>,
@@ -32,6 +33,7 @@ pub struct Loaded<'a, W> {
     pub tag: LweTag,
     pub checksum: u32,
     pub words: &'a [W],
+    pub room: &'a [W],
 }
 
 // A word of a file as a room keeps it.
@@ -100,5 +102,6 @@ pub fn load<'a, W: SavedWord>(
         tag: saved::tag_at(bytes, 0),
         checksum: checksum(bytes),
         words: &words[..count],
+        room: words,
     }
 }
