@@ -24,7 +24,8 @@ def bits_of(register):
 def divisor_of(mnemonic, operand):
     """The divisor as gdb reads it, and its width."""
     if operand.startswith('%'):
-        return '$' + operand[1:], bits_of(operand[1:])
+        # gdb has no r11b: the register whole, of which the mask leaves its low bits
+        return '$' + re.sub(r'^(r\d+)[dwbl]$', r'\1', operand[1:]), bits_of(operand[1:])
     place = re.fullmatch(r'(-?0x[0-9a-f]+)?\(%(\w+)\)', operand)
     suffix = mnemonic[-1]
     if not place or suffix not in BITS:
