@@ -40,12 +40,16 @@ pub(crate) fn parameters(h: Head) -> Said {
     said::holds(parameters_are(h))
 }
 
+// 0 past the end.
+fn word(words: &[u32], i: usize) -> u32 {
+    words.get(i).copied().unwrap_or(0)
+}
+
 // A tag of three words: where its tally comes from, and the low and the high word of the tally; 0 and 3 have none.
 fn tag(words: &[u32]) -> LweTag {
-    match words {
-        [1 | 2, low, high, ..] => {
-            LweTag::with_tally(u64::from(*low) + 0x1_0000_0000 * u64::from(*high))
-        }
+    let tally = u64::from(word(words, 1)) + 0x1_0000_0000 * u64::from(word(words, 2));
+    match word(words, 0) {
+        1 | 2 => LweTag::with_tally(tally),
         _ => LweTag::none(),
     }
 }

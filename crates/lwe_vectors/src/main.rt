@@ -53,11 +53,11 @@ fn call(kind: Kind, r: &Record, out: &mut [u32]) -> Said {
 // The call said what the record says, and left its buffer so.
 fn agrees(record: &Record) -> io::Result<bool> {
     let head = record.head;
-    let Ok(kind) = Kind::try_from(head.kind) else {
-        return Ok(false);
-    };
     let mut out = record.before.clone()?;
-    let said = call(kind, record, &mut out);
+    let said = match Kind::try_from(head.kind) {
+        Ok(kind) => call(kind, record, &mut out),
+        Err(_) => switch::unnamed(head),
+    };
     Ok(said::agrees(said, head) && out == record.after)
 }
 
@@ -68,24 +68,26 @@ enum Outcome {
     End,
 }
 
+// A record that breaks off, or has more words than there is room for, differs; only memory can end the program.
 fn turn(alloc: Global, input: &mut impl Read) -> io::Result<Outcome> {
-    let head = Head::read(input)?;
+    let Some(head) = Head::read(input) else {
+        return Ok(Outcome::Differs(0));
+    };
     if head.kind == 0 {
         return Ok(Outcome::End);
     }
-    let record = Record::read(alloc, input, head)?;
+    if !head.fits() {
+        return Ok(Outcome::Differs(head.kind));
+    }
+    let record = match Record::read(alloc, input, head) {
+        Ok(record) => record,
+        Err(e) if e.kind() == ErrorKind::OutOfMemory => return Err(e),
+        Err(_) => return Ok(Outcome::Differs(head.kind)),
+    };
     if agrees(&record)? {
         Ok(Outcome::Equal(head.kind))
     } else {
         Ok(Outcome::Differs(head.kind))
-    }
-}
-
-// A file that breaks off counts as a record that differs.
-fn whole(turn: io::Result<Outcome>) -> io::Result<Outcome> {
-    match turn {
-        Err(e) if e.kind() == ErrorKind::UnexpectedEof => Ok(Outcome::Differs(0)),
-        other => other,
     }
 }
 
@@ -100,10 +102,10 @@ fn all(
     counts: &mut Counts,
 ) -> io::Result<bool> {
     for number in 0..u32::MAX {
-        match whole(turn(alloc, input))? {
+        match turn(alloc, input)? {
             Outcome::End => return Ok(true),
             Outcome::Differs(kind) => {
-                println!(rt; "first that differs: record {number}\nof kind {kind}")?;
+                let _ = println!(rt; "first that differs: record {number}\nof kind {kind}");
                 return Ok(false);
             }
             Outcome::Equal(kind) => {
@@ -136,10 +138,10 @@ fn main(rt: HostRuntime) -> io::Result<()> {
     let switching = file(&rt, alloc, b"switch.bin", &mut counts)?;
     let rust = file(&rt, alloc, b"oracle.bin", &mut counts)?;
     for (kind, count) in counts.iter().enumerate().skip(1) {
-        println!(rt; "kind {kind}: {count}")?;
+        let _ = println!(rt; "kind {kind}: {count}");
     }
     if encryption && switching && rust {
-        println!(rt; "all equal")?;
+        let _ = println!(rt; "all equal");
     }
     Ok(())
 }

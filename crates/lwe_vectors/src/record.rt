@@ -11,6 +11,13 @@ use std::io::Read;
 
 const HEAD: usize = 60;
 
+// The most words and numbers that an operand has, and the most that a record has in all.
+const WORDS: usize = 8192;
+
+const NUMBERS: usize = 2048;
+
+const ALL: usize = 16384;
+
 #[derive(Clone, Copy)]
 pub(crate) struct Head {
     // The number of its kind, 0 at the end of the file.
@@ -118,10 +125,18 @@ impl Head {
         self.decryption_parameters().into()
     }
 
-    pub(crate) fn read(input: &mut impl Read) -> io::Result<Head> {
+    pub(crate) fn read(input: &mut impl Read) -> Option<Head> {
         let mut bytes = [0; HEAD];
-        input.read_exact(&mut bytes)?;
-        Ok(Head::of(&bytes))
+        (programs::read_full(input, &mut bytes) == HEAD).then_some(Head::of(&bytes))
+    }
+
+    // There is room for every operand, and for the whole record.
+    pub(crate) fn fits(self) -> bool {
+        let l = self.lengths;
+        let written = if self.refusal == 0 { l.out } else { 0 };
+        l.a.max(l.b).max(l.c).max(l.out) <= WORDS
+            && l.d.max(l.e) <= NUMBERS
+            && l.a + l.b + l.c + l.d + l.e + l.out + written <= ALL
     }
 }
 

@@ -31,6 +31,14 @@ fn given(h: Head) -> Result<LweKeySwitchingParameters, Refusal> {
     })
 }
 
+// A number that names no kind: what refuses its basis, if anything does.
+pub(crate) fn unnamed(h: Head) -> Said {
+    match given(h) {
+        Ok(_) => None,
+        Err(refusal) => Some(Err(refusal)),
+    }
+}
+
 fn tried(h: Head) -> Result<(), Refusal> {
     let p = given(h)?;
     LweKeySwitchingParameters::try_new(p.basis, p.input_dimension, p.output_dimension)?;
