@@ -28,14 +28,20 @@ def code(text):
     return re.sub(r"//[^\n]*", "", text)
 
 
+def past(text, i, open_, close):
+    """Past the bracket that closes the one before i."""
+    depth = 1
+    while depth:
+        depth += {open_: 1, close: -1}.get(text[i], 0)
+        i += 1
+    return i
+
+
 def functions(text):
     """(name, comment, parameters, result, clauses, body) of each function."""
     pattern = re.compile(r"((?:^[ \t]*//[^\n]*\n)*)((?:^[ \t]*#\[[^\n]*\n)*)^[ \t]*(?:pub(?:\(crate\))? )?(?:extern \"C\" )?fn (\w+)(?:<[^>]*>)?\(", re.M)
     for m in pattern.finditer(text):
-        i, depth = m.end(), 1
-        while depth:
-            depth += {"(": 1, ")": -1}.get(text[i], 0)
-            i += 1
+        i = past(text, m.end(), "(", ")")
         parameters = text[m.end():i - 1]
         rest = text[i:]
         head = re.match(r"\s*(?:->\s*([^\n{]+?))?\s*(?=requires|ensures|\{|where|;)", rest)
@@ -46,19 +52,13 @@ def functions(text):
             c = re.match(r"\s*(requires|ensures)( \w+)? \{", text[j:])
             if not c:
                 break
-            k, depth = j + c.end(), 1
-            while depth:
-                depth += {"{": 1, "}": -1}.get(text[k], 0)
-                k += 1
+            k = past(text, j + c.end(), "{", "}")
             clauses.append((c.group(1), re.sub(r"\s+", " ", text[j + c.end():k - 1]).strip()))
             j = k
         b = re.match(r"\s*\{", text[j:])
         if not b:
             continue
-        k, depth = j + b.end(), 1
-        while depth:
-            depth += {"{": 1, "}": -1}.get(text[k], 0)
-            k += 1
+        k = past(text, j + b.end(), "{", "}")
         yield m.group(3), m.group(1), parameters, result, clauses, text[j + b.end():k - 1]
 
 
