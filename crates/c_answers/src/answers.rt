@@ -21,7 +21,7 @@ impl From<Result<LweTag, Refusal>> for LweOutcome {
         match answer {
             Ok(tag) => LweOutcome { refusal: 0, tag },
             Err(refusal) => LweOutcome {
-                refusal: refusal.number(),
+                refusal: u32::from(refusal),
                 tag: LweTag::none(),
             },
         }
@@ -34,14 +34,14 @@ pub fn code(answer: Result<(), Refusal>) -> u32
 {
     match answer {
         Ok(()) => 0,
-        Err(refusal) => refusal.number(),
+        Err(refusal) => u32::from(refusal),
     }
 }
 
 fn refused(refusal: Refusal) -> u64
     ensures { result ≡ refused_number (number_of refusal) }
 {
-    0x1_0000_0000 + refusal.number() as u64
+    0x1_0000_0000 + u32::from(refusal) as u64
 }
 
 pub fn word_number(answer: Result<u32, Refusal>) -> u64

@@ -4,11 +4,14 @@
 --     first_size, first_value, only_size sizes are judged before values
 --     refused, served  a call whose answer is its own; accepted, answered_ok: back from such an answer
 --     unwritten        a refused call leaves a lent buffer as it was
+--     handed_on        where a `?` ends a call, it answers that refusal
 -- Assumes nothing.
 use Rattle.std.proofs.Common.{◌≡◌, refl, sym, ap, ◌∙◌, Bool, true, false, ◌&&◌, [], ◌∷◌, ℕ, List, Result, Ok, Err, arith}
 use lib.Dec.{T, eqb}
 use mir.Facts.{and_yes, eqb_yes}
 use borrow.Author.Tests.{eqb-true, eqb-false}
+use Rattle.std.specs.Prelude.{IsErrAnd}
+use Rattle.std.proofs.lemmas.Result.{err_from_is_err_and}
 use Rattle.scheme.specs.Numbers.{pick}
 use Rattle.scheme.specs.Checks.{Check, values, order, applies, first_in, refusal, Writes}
 use Rattle.scheme.proofs.Order.{early, late, only, refused as refused_buffer, told, given}
@@ -126,3 +129,8 @@ answered_ok {A} rows x v h = let z : refusal rows ≡ 0 = sym (code_is rows x) �
 pub unwritten : {A : Type 0} {rows : List Check} {result before : List A} (e : Refusal) → number_of e ≡ refusal rows
     → Writes rows result before (number_of e) before
 unwritten e h = refused_buffer h (some_number e)
+
+-- ---- a call that ends at a `?`
+
+pub handed_on : {A : Type 0} (r : Result A Refusal) {e : Refusal} → IsErrAnd r (λ y. y ≡ e) → r ≡ Err e
+handed_on r h = let p = err_from_is_err_and r h in p.1 ∙ ap Err p.2

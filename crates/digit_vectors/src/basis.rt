@@ -36,6 +36,6 @@ pub(crate) fn compare(r: &[u8], held: &mut Held) -> bool {
             *held = Some(b);
             expected == 0 && says(b, r)
         }
-        Err(refusal) => expected == refusal.number(),
+        Err(refusal) => expected == u32::from(refusal),
     }
 }

@@ -36,7 +36,7 @@ impl<'a> Expected<'a> {
     }
 
     fn refuses_by(&self, refusal: Refusal) -> bool {
-        self.refusal == refusal.number()
+        self.refusal == u32::from(refusal)
     }
 
     fn reading_is(&self, b: ApproxSignedBasis) -> bool {

@@ -26,6 +26,15 @@ const NO_TALLY: u64 = u64::MAX;
 // 17 refuses a tally, given or summed, above this.
 const CAP: u64 = 0x1_0000_0000;
 
+// The number to save.
+impl From<LweTag> for u64 {
+    ghost from_gives = { λ tag number. number ≡ tag.tally };
+
+    fn from(tag: LweTag) -> u64 {
+        tag.tally
+    }
+}
+
 // The tally that one number stands for.
 fn tally_from_number(number: u64) -> Option<u64>
     ensures { result ≡ tally_for number }
@@ -148,13 +157,6 @@ impl LweTag {
         ensures { result ≡ tag_of Absent }
     {
         LweTag { tally: NO_TALLY }
-    }
-
-    // The number to save.
-    pub fn number(self) -> u64
-        ensures { result ≡ self.tally }
-    {
-        self.tally
     }
 
     // A public-key, packed or switched ciphertext has none.

@@ -10,7 +10,7 @@ pub(crate) type Said = Option<Result<u32, Refusal>>;
 pub(crate) fn agrees(said: Said, head: Head) -> bool {
     match said {
         Some(Ok(value)) => head.refusal == 0 && head.answer == value,
-        Some(Err(refusal)) => head.refusal == refusal.number() && head.answer == 0,
+        Some(Err(refusal)) => head.refusal == u32::from(refusal) && head.answer == 0,
         None => false,
     }
 }
@@ -27,7 +27,7 @@ pub(crate) fn holds(answer: Result<bool, Refusal>) -> Said {
 // A call that writes ciphertexts, all with this tag.
 pub(crate) fn written(answer: Result<LweTag, Refusal>, expected: LweTag) -> Said {
     match answer {
-        Ok(tag) => (tag.number() == expected.number()).then_some(Ok(0)),
+        Ok(tag) => (u64::from(tag) == u64::from(expected)).then_some(Ok(0)),
         Err(refusal) => Some(Err(refusal)),
     }
 }

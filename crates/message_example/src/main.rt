@@ -24,7 +24,7 @@ fn tell(rt: &impl Print, answer: Result<LweTag, Refusal>) -> io::Result<()> {
     match answer.map(|tag| tag.tally()) {
         Ok(Some(tally)) => println!(rt; "tally {tally}"),
         Ok(None) => println!(rt; "no tally"),
-        Err(refusal) => println!(rt; "refused {}", refusal.number()),
+        Err(refusal) => println!(rt; "refused {}", u32::from(refusal)),
     }
 }
 
@@ -32,7 +32,7 @@ fn open(rt: &impl Print, params: LweParameters, ciphertext: &[u32]) -> io::Resul
     let key = LweSecretKeyRef::Encoded(&SECRET);
     match decrypt_message(params.into(), key, ciphertext) {
         Ok(message) => println!(rt; "message {message}"),
-        Err(refusal) => println!(rt; "refused {}", refusal.number()),
+        Err(refusal) => println!(rt; "refused {}", u32::from(refusal)),
     }
 }
 
@@ -54,6 +54,6 @@ fn parameters() -> Result<LweParameters, Refusal> {
 fn main(rt: HostRuntime) -> io::Result<()> {
     match parameters() {
         Ok(params) => run(&rt, params),
-        Err(refusal) => println!(rt; "refused {}", refusal.number()),
+        Err(refusal) => println!(rt; "refused {}", u32::from(refusal)),
     }
 }

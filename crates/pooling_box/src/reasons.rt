@@ -27,7 +27,7 @@ fn words_of(reason: Refusal) -> &'static str {
 
 // The number, and in words what it stands for.
 pub(crate) fn refused(rt: &impl Print, reason: Refusal) {
-    let _ = println!(rt; "refused {}: {}", reason.number(), words_of(reason));
+    let _ = println!(rt; "refused {}: {}", u32::from(reason), words_of(reason));
 }
 
 // A name, and what became of it.

@@ -46,14 +46,7 @@ pub fn add_row(
     words_from(room, bytes, at);
     let tag = saved::tag_at(bytes, i);
     let row = &mut total[at..at + width];
-    add_assign(
-        modulus,
-        dimension,
-        row,
-        LweTag::with_tally(number),
-        room,
-        tag,
-    )
-    .unwrap()
-    .number()
+    let given = LweTag::with_tally(number);
+    let sum = add_assign(modulus, dimension, row, given, room, tag).unwrap();
+    u64::from(sum)
 }

@@ -34,6 +34,6 @@ pub fn write_tallies(tallies: &mut [u64], bytes: &[u8])
     ensures { tallies.new ≡ saved_tallies (length tallies.old) bytes.now }
 {
     for (i, tally) in tallies.iter_mut().enumerate() {
-        *tally = saved::tag_at(bytes, i).number();
+        *tally = u64::from(saved::tag_at(bytes, i));
     }
 }

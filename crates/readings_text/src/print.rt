@@ -29,7 +29,7 @@ fn print_word(out: &mut impl Write, r: WordReply, digits: [i64; 16]) {
 }
 
 fn print_refusal(out: &mut impl Write, refusal: Refusal) {
-    let _ = write!(out, "refused {}", refusal.number());
+    let _ = write!(out, "refused {}", u32::from(refusal));
 }
 
 // No line where there is nothing to say.

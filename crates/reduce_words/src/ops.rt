@@ -8,7 +8,7 @@ use crate::power;
 // q, which is not 0.
 #[derive(Clone, Copy)]
 pub struct Divisor {
-    q: u32,
+    pub q: u32,
     ghost positive: { 0 < q },
 }
 
@@ -20,7 +20,7 @@ impl Divisor {
         if q == 0 { None } else { Some(Divisor { q }) }
     }
 
-    // Whether q is a power of two.
+    // Whether q is a power of two. Stays beside the function: `value_bits` asks it of any number.
     pub fn is_power(self) -> bool
         ensures { result ≡ is_power 32 self.q }
     {

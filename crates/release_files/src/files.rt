@@ -56,7 +56,7 @@ impl Folder<'_> {
             let _ = match l.tag.is_good(l.head.modulus, l.head.plaintext_modulus) {
                 Ok(true) => print!(self.rt; " (good)"),
                 Ok(false) => print!(self.rt; " (not good)"),
-                Err(reason) => print!(self.rt; " refused {}", reason.number()),
+                Err(reason) => print!(self.rt; " refused {}", u32::from(reason)),
             };
         }
         let _ = print!(self.rt; ", checksum {}: ", l.checksum);
@@ -67,7 +67,7 @@ impl Folder<'_> {
         let _ = match verdict {
             Ok(()) => println!(self.rt; "{good}"),
             Err(Fault::Differs) => println!(self.rt; "DIFFERS"),
-            Err(Fault::Refused(reason)) => println!(self.rt; "REFUSED {}", reason.number()),
+            Err(Fault::Refused(reason)) => println!(self.rt; "REFUSED {}", u32::from(reason)),
         };
     }
 }
