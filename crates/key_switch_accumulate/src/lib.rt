@@ -7,7 +7,7 @@ ghost use mathlib.Core.List.{map, zip_with};
 ghost use Rattle.key_switch_tile.specs.Rows.{Spare, Less};
 ghost use Rattle.key_switch_accumulate.specs.Rows.{Roomy, Kept, addend_of};
 
-use primus_reduce::Modulus;
+use primus_reduce::Divisor;
 
 // What y leaves of q, or y.
 fn addend<const OPPOSITE: bool>(y: u32, q: u32) -> u32
@@ -23,14 +23,6 @@ fn more(x: u64, a: u32, y: u32) -> u64
     ensures { result ≡ x + a * y }
 {
     x + u64::from(a) * u64::from(y)
-}
-
-// x mod q
-fn reduce(x: u64, q: u32) -> u32
-    requires { 0 < q }
-    ensures { result ≡ x % q }
-{
-    Modulus::Explicit(q).reduce(x)
 }
 
 // acc + a × (q − entry), which is acc − a × entry modulo q, or acc + a × entry
@@ -58,23 +50,22 @@ pub fn accumulate_entry(acc: &mut [u64], entry: &[u32], digit: u32, half: u32, q
 }
 
 #[tactic(auto, using(scheme::proofs::InPlace::filled_start, scheme::proofs::InPlace::filled_end, crate::proofs::Rows::mapped_length))]
-fn reduce_all(acc: &mut [u64], q: u32)
-    requires { 0 < q }
-    ensures { acc.new ≡ map (λ x. x % q) acc.old }
+fn reduce_all(acc: &mut [u64], q: Divisor)
+    ensures { acc.new ≡ map (λ x. x % q.q) acc.old }
 {
     for x in acc.iter_mut() {
-        *x = u64::from(reduce(*x, q));
+        *x = u64::from(q.reduce(*x));
     }
 }
 
 // Reduces where the ceiling is past the limit, and answers the ceiling that then holds.
-pub fn keep_room(acc: &mut [u64], ceiling: u64, limit: u64, q: u32) -> u64
-    requires { (0 < q) × (q ≤ limit) }
-    ensures { Kept q ceiling limit acc.old result acc.new }
+pub fn keep_room(acc: &mut [u64], ceiling: u64, limit: u64, q: Divisor) -> u64
+    requires { q.q ≤ limit }
+    ensures { Kept q.q ceiling limit acc.old result acc.new }
 {
     if limit < ceiling {
         reduce_all(acc, q);
-        u64::from(q)
+        u64::from(q.q)
     } else {
         ceiling
     }
@@ -93,11 +84,11 @@ pub fn load(acc: &mut [u64], words: &[u32])
 
 // out becomes acc mod q
 #[tactic(auto, using(scheme::proofs::InPlace::filled_start, scheme::proofs::InPlace::filled_end, crate::proofs::Rows::mapped_length))]
-pub fn reduce_to(out: &mut [u32], acc: &[u64], q: u32)
-    requires { (0 < q) × (length out.old ≡ length acc.now) }
-    ensures { out.new ≡ map (λ x. x % q) acc.now }
+pub fn reduce_to(out: &mut [u32], acc: &[u64], q: Divisor)
+    requires { length out.old ≡ length acc.now }
+    ensures { out.new ≡ map (λ x. x % q.q) acc.now }
 {
     for (k, x) in out.iter_mut().enumerate() {
-        *x = reduce(acc[k], q);
+        *x = q.reduce(acc[k]);
     }
 }

@@ -71,8 +71,8 @@ module _ {p : PreparedBasis} {n m rows : ℕ} {input key : List ℕ} (sh : Shape
     small : p.level_count * (h * q) ≤ 2 ^ 63
     small = cost_small q h k.modulus k.halved
 
-    pub room_asks : (0 < q) × (q ≤ limit)
-    room_asks = (omega (arith, q_pos sh, k.modulus), omega (arith, small, q_most sh, k.modulus, k.costs, k.leaves))
+    pub room_asks : q ≤ limit
+    room_asks = omega (arith, small, q_most sh, k.modulus, k.costs, k.leaves)
 
     pub walking_start : {acc : List ℕ} → acc ≡ begun n m rows input → {first : ℕ} → first ≡ q → Walking p n m rows input key acc first 0
     walking_start {acc} e f =

@@ -8,12 +8,13 @@ ghost use Rattle.gadget_constants.specs.Prepared.{basis_in};
 ghost use Rattle.key_switch_tile.specs.Tile.{tile, Shaped, Reached, begun};
 
 use key_switch_tile::{Kernel, Shape};
+use primus_reduce::Divisor;
 
 // Exact sums of 64 bits, for a basis with this half and this modulus.
 #[derive(Clone, Copy)]
 struct ExplicitKernel {
     half: u32,
-    q: u32,
+    q: Divisor,
 }
 
 impl Kernel for ExplicitKernel {
@@ -21,14 +22,14 @@ impl Kernel for ExplicitKernel {
 
     ghost number = { λ x. x };
 
-    ghost ring = { λ k. k.q };
+    ghost ring = { λ k. k.q.q };
 
     ghost near = { λ k. k.half };
 
-    ghost growth = { λ k. k.half * k.q };
+    ghost growth = { λ k. k.half * k.q.q };
 
     fn take_away(&self, row: &mut [u64], entry: &[u32], digit: u32) {
-        key_switch_accumulate::accumulate_entry(row, entry, digit, self.half, self.q);
+        key_switch_accumulate::accumulate_entry(row, entry, digit, self.half, self.q.q);
     }
 }
 
@@ -49,16 +50,16 @@ fn cost_of(levels: usize, half: u32, q: u32) -> u64
 }
 
 // The rows go through all n places. No accumulator is above `ceiling`.
-fn walk(acc: &mut [u64], input: &[u32], key: &[u32], rows: usize, q: u32, s: Shape)
-    requires { (rows ≤ tile) × Shaped s.basis s.n s.m rows input.now key.now × (s.basis.modulus ≡ Explicit q)
+fn walk(acc: &mut [u64], input: &[u32], key: &[u32], rows: usize, q: Divisor, s: Shape)
+    requires { (rows ≤ tile) × Shaped s.basis s.n s.m rows input.now key.now × (s.basis.modulus ≡ Explicit q.q)
         × (acc.old ≡ begun s.n s.m rows input.now) }
     ensures { Reached s.basis s.n s.m rows s.n input.now key.now acc.new }
 {
     let half = half_of(s.basis.log_basis);
     let kernel = ExplicitKernel { half, q };
-    let cost = cost_of(s.basis.level_count, half, q);
+    let cost = cost_of(s.basis.level_count, half, q.q);
     let limit = u64::MAX - cost;
-    let mut ceiling = u64::from(q);
+    let mut ceiling = u64::from(q.q);
     for i in 0..s.n {
         ceiling = key_switch_accumulate::keep_room(acc, ceiling, limit, q);
         let lanes = key_switch_tile::lanes_of(input, i, rows, s);
@@ -82,6 +83,7 @@ pub fn switch_tile(
     ensures { out.new
         ≡ switched_batch (basis_in s.basis) s.n s.m key.now rows input.now }
 {
+    let q = Divisor { q };
     key_switch_tile::start(out, input, rows, s);
     key_switch_accumulate::load(acc, out);
     walk(acc, input, key, rows, q, s);

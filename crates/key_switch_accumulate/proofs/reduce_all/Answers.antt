@@ -6,4 +6,4 @@ use Rattle.key_switch_accumulate.proofs.reduce_all.Goals as goal
 
 pub loop-x-preserved : goal.loop-x-preserved
 loop-x-preserved c =
-    mapped_next_in_place (λ x. x % c.args.q) _ _ _ c.loop-x.invariant _ (omega arith) (c.from.ensures ∙ c.reduce.ensures)
+    mapped_next_in_place (λ x. x % c.args.q.q) _ _ _ c.loop-x.invariant _ (omega arith) (c.from.ensures ∙ c.reduce.ensures)

@@ -5,4 +5,4 @@ use Rattle.key_switch_accumulate.proofs.reduce_to.Goals as goal
 
 pub loop-k-preserved : goal.loop-k-preserved
 loop-k-preserved c =
-    mapped_next (λ x. x % c.args.q) _ _ _ _ c.loop-k.invariant _ (omega arith) c.reduce.ensures
+    mapped_next (λ x. x % c.args.q.q) _ _ _ _ c.loop-k.invariant _ (omega arith) c.reduce.ensures
