@@ -1,19 +1,18 @@
 -- Laws of the steps: products, bodies and phases.
 -- Assumes nothing.
-use mathlib.Core.Path.{◌≡◌, refl, sym, ap, ◌∙◌}
-use mathlib.Core.Bool.{Bool, true, false}
+use mathlib.Core.Path.{◌≡◌, sym, subst, ap, ◌∙◌}
 use mathlib.Core.List.{List, [], ◌∷◌, ◌++◌}
-use Prim.Native.Nat.{ℕ, ◌+◌, ◌<◌}
+use Prim.Native.Nat.{ℕ, ◌+◌, ◌-◌, ◌<◌}
 use native.Mathlib.Nat.{mod-eq_of_lt}
-use native.Mathlib.Numerals.{add-one}
 use native.Mathlib.Omega.{arith}
-use lib.Dec.{eqb}
-use lib.IntN.{ℤ, pos, ◌+ℤ◌, ◌-ℤ◌, ◌*ℤ◌, +ℤ_idr, *ℤ-zero}
-use lib.ListN.{length, get_or, get_or-eq_default}
-use borrow.Author.Tests.{ne_eqb, eqb-false}
-use Rattle.scheme.specs.Numbers.{pick, residue, Cong, sum_to}
-use Rattle.scheme.specs.Lwe.{Key, Words, Signed, secret_of, key_length, inner, body_of, encrypted, phase_of}
+use lib.IntN.{ℤ, pos, ◌+ℤ◌, ◌-ℤ◌, ◌*ℤ◌}
+use lib.ListN.{length, get_or-append}
+use lib.Seq.{get_or-append_seam}
+use borrow.Author.Tests.{ne_eqb}
+use Rattle.scheme.specs.Numbers.{residue, Cong, sum_to}
+use Rattle.scheme.specs.Lwe.{inner, body_of, encrypted, phase_of}
 use Rattle.scheme.proofs.Residue.{cong_refl, cong_of_eq, cong_trans, cong_add, residue_cong}
+use Rattle.scheme.proofs.Sums.{sum_ext}
 use Rattle.scheme.proofs.Lwe.{cong_sub, stands}
 use Rattle.primus_reduce.specs.Ring.{modulo}
 
@@ -23,20 +22,6 @@ modulo_stands {q} {w} h z e = rw (e ∙ plain) (stands h z)
   where
     plain : modulo q z ≡ residue z q
     plain = rw (ne_eqb q 0 (λ f. omega arith))
-
--- ---- inner products
-
-past_end : (key : Key) (n : ℕ) → key_length key ≡ n → secret_of key n ≡ pos 0
-past_end (Words s) n e = ap pos (get_or-eq_default s 0 {n = n} (omega arith))
-past_end (Signed s) n e = get_or-eq_default s (pos 0) {n = n} (omega arith)
-
--- a key has no number for the body
-inner_body : (n : ℕ) (x : List ℕ) (key : Key) → length x ≡ n + 1 → key_length key ≡ n → inner (length x) x (secret_of key) ≡ inner n x (secret_of key)
-unfolding inner sum_to
-inner_body n x key e k =
-    ap (λ m. sum_to m (λ i. pos (get_or x i 0) *ℤ secret_of key i)) (e ∙ add-one n)
-    ∙ ap (λ z. sum_to n (λ i. pos (get_or x i 0) *ℤ secret_of key i) +ℤ z) (ap (λ z. pos (get_or x n 0) *ℤ z) (past_end key n k) ∙ *ℤ-zero (pos (get_or x n 0)))
-    ∙ +ℤ_idr (sum_to n (λ i. pos (get_or x i 0) *ℤ secret_of key i))
 
 -- ---- encryption and phase, by the words that stand for ⟨a, s⟩ and e
 
@@ -50,19 +35,25 @@ unfolding encrypted body_of
 encrypted_is q a s e p sum w h es ew =
     ap (λ b. a ++ (b ∷ [])) (residue_cong h (cong_add (cong_add (modulo_stands h (inner (length a) a s) es) (modulo_stands h e ew)) (cong_refl q (pos p))))
 
-pub phase_is : (q n : ℕ) (x : List ℕ) (key : Key) (sum : ℕ) {r : ℕ} → 0 < q → key_length key ≡ n → length x ≡ n + 1
-    → sum ≡ modulo q (inner (length x) x (secret_of key)) → r ≡ modulo q (pos (get_or x n 0) -ℤ pos sum) → r ≡ phase_of q n x (secret_of key)
-unfolding phase_of
-phase_is q n x key sum h k l es er =
-    er
-    ∙ rw (ne_eqb q 0 (λ f. omega arith))
-    (residue_cong h (cong_sub (cong_refl q (pos (get_or x n 0))) (cong_trans (modulo_stands h _ es) (cong_of_eq q (inner_body n x key l k)))))
+-- the sum over the words before the body
+inner_mask : (a : List ℕ) (b : ℕ) (s : ℕ → ℤ) → inner (length a) a s ≡ inner (length a) (a ++ (b ∷ [])) s
+unfolding inner
+inner_mask a b s = sum_ext (length a) _ _ (λ i l. ap (λ (y : ℕ). pos y *ℤ s i) (sym (get_or-append a (b ∷ []) 0 i l)))
 
--- what a run lacks counts as 0
-pub no_number : (q : ℕ) → 0 ≡ modulo q (pos 0)
-unfolding residue
-no_number q = go (eqb q 0) refl
+pub phase_is : (q : ℕ) (x a : List ℕ) (s : ℕ → ℤ) (b sum : ℕ) {r : ℕ} → 0 < q → (x ≡ a ++ (b ∷ [])) × (length a + 1 ≡ length x)
+    → sum ≡ modulo q (inner (length a) a s) → r ≡ modulo q (pos b -ℤ pos sum) → r ≡ phase_of q (length x - 1) x s
+unfolding phase_of
+phase_is q x a s b sum {r} h l es er = rw (l.0) (subst (λ n. r ≡ phase_of q n (a ++ (b ∷ [])) s) (omega (arith, l.1, ap length l.0)) whole)
   where
-    go : (b : Bool) → eqb q 0 ≡ b → 0 ≡ pick b 0 (residue (pos 0) q)
-    go true e = refl
-    go false e = sym (mod-eq_of_lt {m = q} (omega (arith, eqb-false q 0 e)))
+    whole : r ≡ phase_of q (length a) (a ++ (b ∷ [])) s
+    whole =
+        er
+        ∙ rw (ne_eqb q 0 (λ f. omega arith))
+        (residue_cong h
+        (cong_sub (cong_of_eq q (ap pos (sym (get_or-append_seam a b [] 0)))) (cong_trans (modulo_stands h _ es) (cong_of_eq q (inner_mask a b s)))))
+
+-- nothing was lent
+pub phase_none : (q : ℕ) (x : List ℕ) (s : ℕ → ℤ) → 0 < q → length x ≡ 0 → 0 ≡ phase_of q (length x - 1) x s
+unfolding phase_of inner residue sum_to
+phase_none q [] s h e = sym (mod-eq_of_lt {m = q} h)
+phase_none q (y ∷ ys) s h e = absurd (omega (arith, e))

@@ -17,7 +17,7 @@ use Rattle.lwe_secret_key.specs.Runs.{replaced, Run}
 abbrev pub Rows : ℕ → ℕ → List ℕ → (ℕ → ℤ) → (ℕ → ℤ) → (ℕ → ℤ) → ℕ → List ℕ → List ℕ → ℕ → Type 0
 Rows q n masks s e p c d now i = Filling (λ i. encrypted q n (take n (drop (i * n) masks)) s (e i) (p i)) (n + 1) c d now i
 
-module _ (q n : ℕ) (masks : List ℕ) (s e p : ℕ → ℤ) (c : ℕ) (d : List ℕ) (run : Run q n (length masks) c (length d)) where
+module _ (q n : ℕ) (masks : List ℕ) (s e p : ℕ → ℤ) (c : ℕ) (d : List ℕ) (run : Run n (length masks) c (length d)) where
   pub rows_start : Rows q n masks s e p c d d 0
   rows_start = filling_start _ (n + 1) c d run.rooms (λ i h. encrypted-row q n c i masks s (e i) (p i) run.each h)
 

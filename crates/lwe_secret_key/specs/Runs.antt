@@ -1,9 +1,8 @@
 -- Runs of ciphertexts: for the steps, and no part of a promise.
-use Rattle.std.specs.Prelude.{◌≡◌, List, ◌++◌, ℕ, ◌+◌, ◌*◌, ◌<◌, take, drop}
+use Rattle.std.specs.Prelude.{◌≡◌, List, ◌++◌, ℕ, ◌+◌, ◌*◌, take, drop}
 
 -- what writing a run asks, of n and the lengths of masks, errors and output: a row for each error
-pub record Run (q n masks errors room : ℕ) : Type 0 where
-  pub positive : 0 < q
+pub record Run (n masks errors room : ℕ) : Type 0 where
   pub each : masks ≡ errors * n
   pub rooms : room ≡ errors * (n + 1)
 

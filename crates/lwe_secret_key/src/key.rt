@@ -1,12 +1,12 @@
 // A lent secret key of either form. Each function here is exact for every input.
-ghost use Rattle.std.specs.Prelude.{◌≡◌, ◌||◌, pos, length, get_or};
+ghost use Rattle.std.specs.Prelude.{◌≡◌, ◌||◌, length};
 ghost use Rattle.scheme.specs.Lwe.{secret_of, key_length, inner};
 ghost use Rattle.scheme.specs.Checks.{length_fails, words_fail, key_fails};
 ghost use Rattle.primus_reduce.specs.Ring.{size_of, modulo};
 ghost use Rattle.lwe_secret_key.specs.Key.{key_of};
 
 use primus_lattice::LweDimension;
-use primus_reduce::Modulus;
+use primus_reduce::{Factor, Modulus};
 
 // Words below q, or signed numbers c, each for c modulo q.
 #[derive(Clone, Copy)]
@@ -16,7 +16,7 @@ pub enum LweSecretKeyRef<'a> {
 }
 
 impl<'a> LweSecretKeyRef<'a> {
-    fn len(self) -> usize
+    pub(crate) fn len(self) -> usize
         ensures { result ≡ key_length (key_of self.entry) }
     {
         match self {
@@ -65,24 +65,8 @@ impl<'a> LweSecretKeyRef<'a> {
         ensures { result ≡ modulo (size_of modulus) (secret_of (key_of self.entry) i) }
     {
         match self {
-            LweSecretKeyRef::Encoded(words) => word_residue(words, i, modulus),
-            LweSecretKeyRef::Signed(numbers) => error_residue(numbers, i, modulus),
+            LweSecretKeyRef::Encoded(words) => Factor::residue_at(words, i, modulus),
+            LweSecretKeyRef::Signed(numbers) => Factor::residue_at(numbers, i, modulus),
         }
     }
-}
-
-// Number i of a run of words or of signed numbers, as a residue; 0 past the end.
-#[tactic(auto, using(crate::proofs::Laws::no_number))]
-fn word_residue(run: &[u32], i: usize, modulus: Modulus) -> u32
-    ensures { result ≡ modulo (size_of modulus) (pos (get_or run.now i 0)) }
-{
-    run.get(i)
-        .map_or(0, |word| modulus.reduce(u64::from(*word)))
-}
-
-#[tactic(auto, using(crate::proofs::Laws::no_number))]
-pub fn error_residue(run: &[i32], i: usize, modulus: Modulus) -> u32
-    ensures { result ≡ modulo (size_of modulus) (get_or run.now i (pos 0)) }
-{
-    run.get(i).map_or(0, |error| modulus.reduce_signed(*error))
 }

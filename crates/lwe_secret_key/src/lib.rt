@@ -5,4 +5,4 @@
 mod key;
 mod steps;
 
-pub use key::{LweSecretKeyRef, error_residue};
+pub use key::LweSecretKeyRef;

@@ -1,13 +1,13 @@
 // The innermost steps, for calls that have judged what they are lent: one encryption, one row of a run, one phase.
-ghost use Rattle.std.specs.Prelude.{◌≡◌, [], ◌∷◌, ◌++◌, ◌+◌, ◌*◌, ◌<◌, ◌≤◌, pos, ◌+ℤ◌, length, get_or, take, drop};
+ghost use Rattle.std.specs.Prelude.{◌≡◌, [], ◌∷◌, ◌++◌, ◌+◌, ◌-◌, ◌*◌, ◌≤◌, pos, ◌+ℤ◌, length, get_or, take, drop};
 ghost use Rattle.scheme.specs.Lwe.{secret_of, key_length, encrypted, phase_of};
 ghost use Rattle.scheme.specs.Numbers.{residue};
 ghost use Rattle.primus_reduce.specs.Ring.{size_of};
 ghost use Rattle.lwe_secret_key.specs.Key.{key_of};
 ghost use Rattle.lwe_secret_key.specs.Runs.{replaced};
 
-use crate::key::{LweSecretKeyRef, error_residue};
-use primus_reduce::Modulus;
+use crate::key::LweSecretKeyRef;
+use primus_reduce::{Factor, Ring};
 
 fn write(out: &mut [u32], mask: &[u32], body: u32)
     requires { length out.old ≡ length mask.now + 1 }
@@ -18,23 +18,14 @@ fn write(out: &mut [u32], mask: &[u32], body: u32)
     out[n] = body;
 }
 
-// (a, sum + e + p), where the words sum and e stand for ⟨a, s⟩ and the error modulo q.
+// sum + e + p, where the words sum and e stand for ⟨a, s⟩ and the error modulo q.
 #[tactic(auto, using(crate::proofs::Laws::body_is))]
-fn encrypt_mask_body(
-    out: &mut [u32],
-    mask: &[u32],
-    modulus: Modulus,
-    sum: u32,
-    error: u32,
-    plaintext: u32,
-)
-    requires { (0 < size_of modulus) × (length out.old ≡ length mask.now + 1) }
-    ensures { out.new ≡
-        mask.now ++ (residue (pos sum +ℤ pos error +ℤ pos plaintext) (size_of modulus) ∷ []) }
+fn body(sum: u32, error: u32, plaintext: u32, ring: Ring) -> u32
+    ensures { result ≡ residue (pos sum +ℤ pos error +ℤ pos plaintext) (size_of ring.modulus) }
 {
+    let modulus = ring.modulus;
     let noisy = modulus.reduce_add(sum, error);
-    let body = modulus.reduce_add(noisy, plaintext);
-    write(out, mask, body);
+    modulus.reduce_add(noisy, plaintext)
 }
 
 impl<'a> LweSecretKeyRef<'a> {
@@ -47,25 +38,30 @@ impl<'a> LweSecretKeyRef<'a> {
         errors: &[i32],
         i: usize,
         plaintext: u32,
-        modulus: Modulus,
+        ring: Ring,
     )
-        requires { (0 < size_of modulus) × (length out.old ≡ length mask.now + 1) }
-        ensures { out.new ≡ encrypted (size_of modulus) (length mask.now) mask.now
+        requires { length out.old ≡ length mask.now + 1 }
+        ensures { out.new ≡ encrypted (size_of ring.modulus) (length mask.now) mask.now
             (secret_of (key_of self.entry)) (get_or errors.now i (pos 0)) (pos plaintext) }
     {
-        let sum = self.product(mask, modulus);
-        let error = error_residue(errors, i, modulus);
-        encrypt_mask_body(out, mask, modulus, sum, error, plaintext);
+        let sum = self.product(mask, ring.modulus);
+        let error = Factor::residue_at(errors, i, ring.modulus);
+        write(out, mask, body(sum, error, plaintext, ring));
     }
 
-    // b − ⟨a, s⟩. The key has no number for the body: 0.
-    #[tactic(auto, using(crate::proofs::Laws::phase_is))]
-    pub fn phase(self, ciphertext: &[u32], n: usize, modulus: Modulus) -> u32
-        requires { (0 < size_of modulus) × (key_length (key_of self) ≡ n) × (length ciphertext.now ≡ n + 1) }
-        ensures { result ≡ phase_of (size_of modulus) n ciphertext.now (secret_of (key_of self.entry)) }
+    // b − ⟨a, s⟩, where the last word is b.
+    #[tactic(auto, using(crate::proofs::Laws::phase_is, crate::proofs::Laws::phase_none))]
+    pub fn phase(self, ciphertext: &[u32], ring: Ring) -> u32
+        ensures { result ≡ phase_of (size_of ring.modulus) (length ciphertext.now - 1) ciphertext.now
+            (secret_of (key_of self.entry)) }
     {
-        let sum = self.product(ciphertext, modulus);
-        modulus.reduce_sub(ciphertext[n], sum)
+        match ciphertext.split_last() {
+            None => 0,
+            Some((last, mask)) => {
+                let sum = self.product(mask, ring.modulus);
+                ring.modulus.reduce_sub(*last, sum)
+            }
+        }
     }
 
     // Row i in its place, with mask i and error i.
@@ -73,22 +69,23 @@ impl<'a> LweSecretKeyRef<'a> {
         self,
         out: &mut [u32],
         masks: &[u32],
-        n: usize,
         errors: &[i32],
         i: usize,
         plaintext: u32,
-        modulus: Modulus,
+        ring: Ring,
     )
-        requires { (0 < size_of modulus) × (i * n + n ≤ length masks.now)
-            × (i * (n + 1) + (n + 1) ≤ length out.old) }
-        ensures { out.new ≡ replaced out.old (i * (n + 1)) (n + 1)
-            (encrypted (size_of modulus) n (take n (drop (i * n) masks.now))
+        requires { let n = key_length (key_of self) in
+            (i * n + n ≤ length masks.now) × (i * (n + 1) + (n + 1) ≤ length out.old) }
+        ensures { let n = key_length (key_of self.entry) in
+            out.new ≡ replaced out.old (i * (n + 1)) (n + 1)
+            (encrypted (size_of ring.modulus) n (take n (drop (i * n) masks.now))
             (secret_of (key_of self.entry)) (get_or errors.now i (pos 0)) (pos plaintext)) }
     {
+        let n = self.len();
         let from = i * n;
         let at = i * (n + 1);
         let mask = &masks[from..from + n];
         let row = &mut out[at..at + (n + 1)];
-        self.encrypt_to(row, mask, errors, i, plaintext, modulus);
+        self.encrypt_to(row, mask, errors, i, plaintext, ring);
     }
 }
