@@ -12,7 +12,7 @@ ghost use Rattle.lwe_samples.specs.Answers.{body_fails, extract_rows, Extracts};
 use check_order::{Refusal, Sizes, Values};
 use lwe_tag::LweTag;
 use primus_lattice::LweDimension;
-use primus_reduce::Modulus;
+use primus_reduce::{Modulus, Ring};
 
 // 10: fewer than n words, or more than n bodies. No sum: it could overflow.
 pub fn packed_refused(len: usize, dimension: usize) -> bool
@@ -56,29 +56,19 @@ fn extract_refusal(
     v.judge()
 }
 
-// Word k of the sample of body i: minus word n − i + k for k below i, word k − i for k below n, and then word n + i.
-#[tactic(auto, using(crate::proofs::Laws::sample_words))]
-fn extracted_word(input: &[u32], n: usize, index: usize, k: usize, modulus: Modulus) -> u32
-    requires { (index < n) × (n + index < length input.now) × (k ≤ n) × (0 < size_of modulus) }
-    ensures { result ≡ get_or (extracted (size_of modulus) n input.now index) k 0 }
+// The sample of body `index`: the mask turned by `index` places, negated where it wraps, then the body. A sample of n + 1 words.
+fn write_extracted(out: &mut [u32], input: &[u32], index: usize, ring: Ring)
+    requires { let n = length out.old - 1 in (index < n) × (n + index < length input.now) }
+    ensures { out.new ≡ extracted (size_of ring.modulus) (length out.old - 1) input.now index }
 {
-    if k < index {
-        let wrapped = input[n - index + k];
-        return modulus.reduce_sub(0, wrapped);
-    }
-    if k < n {
-        return input[k - index];
-    }
-    input[n + index]
-}
-
-#[tactic(auto, using(crate::proofs::Laws::sampling))]
-fn write_extracted(out: &mut [u32], input: &[u32], n: usize, index: usize, modulus: Modulus)
-    requires { (index < n) × (n + index < length input.now) × (length out.old ≡ n + 1) × (0 < size_of modulus) }
-    ensures { out.new ≡ extracted (size_of modulus) n input.now index }
-{
-    for (k, word) in out.iter_mut().enumerate() {
-        *word = extracted_word(input, n, index, k, modulus);
+    let n = out.len() - 1;
+    let (mask, bodies) = input.split_at(n);
+    let (plain, wrapped) = mask.split_at(n - index);
+    let (start, rest) = out.split_at_mut(index);
+    rest[..n - index].copy_from_slice(plain);
+    rest[n - index] = bodies[index];
+    for (k, word) in start.iter_mut().enumerate() {
+        *word = ring.modulus.reduce_neg(wrapped[k]);
     }
 }
 
@@ -93,6 +83,7 @@ pub fn extract_lwe_at(
     ensures { Extracts modulus dimension input.now index out.old result out.new }
 {
     extract_refusal(modulus, dimension, input, index, out.len())?;
-    write_extracted(out, input, dimension.get(), index, modulus);
+    let ring = Ring { modulus };
+    write_extracted(out, input, index, ring);
     Ok(LweTag::none())
 }
