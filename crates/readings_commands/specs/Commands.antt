@@ -1,12 +1,11 @@
 -- "The program `readings`": its commands, the operands that each takes, and 19.
-use Rattle.std.specs.Prelude.{false, List, ℕ, leb, eqb, length, get_or}
+use Rattle.std.specs.Prelude.{false, List, ℕ, Some, Err, leb, eqb, length, get_or}
 use Rattle.scheme.specs.Numbers.{pick}
 use Rattle.little_endian.specs.Bytes.{word32}
 use Rattle.primus_reduce.specs.Ring.{modulus_for}
 use Rattle.primus_decompose.specs.Answers as A
 use Rattle.check_order.specs.declared.refusal.Refusal.TheVariants.{Unreadable}
 use Rattle.readings_core.specs.Program.{Session, no_digits, basis_turn, word_turn}
-use Rattle.readings_core.specs.declared.command.Reply.TheVariants.{Refused}
 use Rattle.readings_core.specs.declared.command.Turn.{Turn}
 
 -- "01: modulus (4 bytes), base log (1), levels (1). 02: word (4)."
@@ -16,7 +15,7 @@ operands c = pick (eqb c 1) 6 (pick (eqb c 2) 4 0)
 -- "19. The command is unknown or its operands are cut off": "such a command gets 19 and no other number"
 -- "After 19 it ends."
 abbrev pub over : Session → Turn
-over s = record { reply = Refused Unreadable; digits = no_digits; session = s; more = false }
+over s = record { reply = Some (Err Unreadable); digits = no_digits; session = s; more = false }
 
 abbrev pub basis_command : Session → List ℕ → Turn
 basis_command s xs =

@@ -7,7 +7,7 @@ ghost use Rattle.readings_commands.specs.Commands.{operands, over, basis_command
 use check_order::Refusal;
 use primus_decompose::ApproxSignedBasis;
 use primus_reduce::Modulus;
-use readings_core::{Reply, Session, Turn};
+use readings_core::{Session, Turn};
 
 // Bytes of operands: 6 for a basis, 4 for a word; an unknown command has none.
 pub fn operand_count(command: u8) -> usize
@@ -21,11 +21,12 @@ pub fn operand_count(command: u8) -> usize
 }
 
 // 19, and the end.
+#[tactic(auto, unfolding(readings_digits::specs::Digits::numbers))]
 pub fn end(session: Session) -> Turn
     ensures { result ≡ over session }
 {
     Turn {
-        reply: Reply::Refused(Refusal::Unreadable),
+        reply: Some(Err(Refusal::Unreadable)),
         digits: [0; 16],
         session,
         more: false,

@@ -11,7 +11,7 @@ use Rattle.gadget_constants.specs.declared.word.Reading.{Reading}
 use Rattle.primus_decompose.specs.declared.primitive.basis.ApproxSignedBasis.{ApproxSignedBasis}
 use Rattle.readings_core.specs.declared.command.BasisReply.{BasisReply}
 use Rattle.readings_core.specs.declared.command.Reply.{Reply}
-use Rattle.readings_core.specs.declared.command.Reply.TheVariants.{Basis, Word, Refused}
+use Rattle.readings_core.specs.declared.command.Reply.TheVariants.{Basis, Word}
 use Rattle.readings_core.specs.declared.command.Turn.{Turn}
 
 -- the basis that was accepted last, if any
@@ -35,13 +35,13 @@ basis_line b t =
 abbrev pub no_digits : List ℤ
 no_digits = numbers 16 (λ j. pos 0)
 
-abbrev pub go : Reply → Session → Turn
-go r s = record { reply = r; digits = no_digits; session = s; more = true }
+abbrev pub go : Result Reply Refusal → Session → Turn
+go r s = record { reply = Some r; digits = no_digits; session = s; more = true }
 
 -- a basis is judged by 1 to 3 and 5, as T is answered; "A refused basis keeps the earlier one."
 abbrev pub after_basis : Session → ApproxSignedBasis → Result ℕ Refusal → Turn
-after_basis s b (Ok t) = go (Basis (basis_line b t)) (Some b)
-after_basis s b (Err e) = go (Refused e) s
+after_basis s b (Ok t) = go (Ok (Basis (basis_line b t))) (Some b)
+after_basis s b (Err e) = go (Err e) s
 
 abbrev pub basis_turn : Session → ApproxSignedBasis → Turn
 basis_turn s b = after_basis s b (A.threshold_answer b)
@@ -50,17 +50,17 @@ basis_turn s b = after_basis s b (A.threshold_answer b)
 abbrev pub word_from : ApproxSignedBasis → ℕ → Result Reading Refusal → Turn
 word_from b a (Ok r) =
     record {
-      reply = Word (record { word = a; reading = r.reading; error = r.error; level_count = b.level_count.0 });
+      reply = Some (Ok (Word (record { word = a; reading = r.reading; error = r.error; level_count = b.level_count.0 })));
       digits = numbers 16 (shown_digit b a);
       session = Some b;
       more = true;
     }
-word_from b a (Err e) = go (Refused e) (Some b)
+word_from b a (Err e) = go (Err e) (Some b)
 
 abbrev pub read_word : ApproxSignedBasis → ℕ → Turn
 read_word b a = word_from b a (A.reading_answer b a)
 
 -- "18. A whole word command comes before any accepted basis.": there is none to judge the word by
 abbrev pub word_turn : Session → ℕ → Turn
-word_turn None a = go (Refused F.NoBasis) None
+word_turn None a = go (Err F.NoBasis) None
 word_turn (Some b) a = read_word b a

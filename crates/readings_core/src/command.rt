@@ -31,18 +31,17 @@ pub struct WordReply {
 
 #[derive(Clone, Copy)]
 pub enum Reply {
-    Nothing,
     Basis(BasisReply),
     Word(WordReply),
-    Refused(Refusal),
 }
 
-// An answer, of a word its digits besides, lowest first; the session after it, and whether the program goes on.
+// An answer, or no line; of a word its digits besides, lowest first; the session after it, and whether the program goes on.
 #[derive(Clone, Copy)]
 pub struct Turn {
-    pub reply: Reply,
+    pub reply: Option<Result<Reply, Refusal>>,
     pub digits: [i64; 16],
     pub session: Session,
+    // Stays: a fact of its own, and no flag of a value beside it: the other fields hold either way.
     pub more: bool,
 }
 
@@ -64,11 +63,12 @@ fn basis_line(b: ApproxSignedBasis, threshold: u32) -> BasisReply
 }
 
 // An answer after which the program goes on.
-fn next(reply: Reply, session: Session) -> Turn
+#[tactic(auto, unfolding(readings_digits::specs::Digits::numbers))]
+fn next(reply: Result<Reply, Refusal>, session: Session) -> Turn
     ensures { result ≡ go reply session }
 {
     Turn {
-        reply,
+        reply: Some(reply),
         digits: [0; 16],
         session,
         more: true,
@@ -80,29 +80,30 @@ pub fn on_basis(session: Session, b: ApproxSignedBasis) -> Turn
     ensures { result ≡ basis_turn session b }
 {
     match b.threshold() {
-        Ok(t) => next(Reply::Basis(basis_line(b, t)), Some(b)),
-        Err(refusal) => next(Reply::Refused(refusal), session),
+        Ok(t) => next(Ok(Reply::Basis(basis_line(b, t))), Some(b)),
+        Err(refusal) => next(Err(refusal), session),
     }
 }
 
 // A word under the basis that was accepted last.
+#[tactic(auto, using(check_order::proofs::Answers::answered_ok))]
 fn read_word(b: ApproxSignedBasis, word: u32) -> Turn
     ensures { result ≡ read_word b word }
 {
     let levels = b.level_count();
     match b.reading(word) {
         Ok(r) => Turn {
-            reply: Reply::Word(WordReply {
+            reply: Some(Ok(Reply::Word(WordReply {
                 word,
                 reading: r.reading,
                 error: r.error,
                 level_count: levels.get(),
-            }),
+            }))),
             digits: readings_digits::of_word(b, word),
             session: Some(b),
             more: true,
         },
-        Err(refusal) => next(Reply::Refused(refusal), Some(b)),
+        Err(refusal) => next(Err(refusal), Some(b)),
     }
 }
 
@@ -111,7 +112,7 @@ pub fn on_word(session: Session, word: u32) -> Turn
     ensures { result ≡ word_turn session word }
 {
     match session {
-        None => next(Reply::Refused(Refusal::NoBasis), None),
+        None => next(Err(Refusal::NoBasis), None),
         Some(b) => read_word(b, word),
     }
 }

@@ -3,18 +3,17 @@
 --     run_ends    the last answer is an end
 -- Assumes nothing.
 use mathlib.Core.Path.{◌≡◌, refl, sym, ap, ap₂, ◌∙◌, subst}
-use mathlib.Core.Bool.{Bool, true, false}
+use mathlib.Core.Bool.{true, false}
 use mathlib.Core.List.{List, [], ◌∷◌, ◌++◌, append-nil, append_assoc}
 use Prim.Native.Nat.{ℕ, suc, ◌+◌, ◌-◌, ◌^◌, ◌≤◌, ◌<◌}
 use native.Mathlib.Decide.{ℕ_discrete}
 use native.Mathlib.Omega.{arith}
 use lib.ListN.{length, take, get_or, length-append, get_or-append}
+use Rattle.std.proofs.Common.{Option, Some, None}
 use lib.Seq.{take-append-le, take-append_seam, get_or-append_seam}
-use Rattle.scheme.specs.Numbers.{pick}
 use Rattle.readings_core.specs.declared.command.Turn.{Turn}
-use Rattle.readings_commands.specs.Commands.{over}
 use Rattle.readings_reader.specs.declared.reader.Reader.{Reader}
-use Rattle.readings_reader.specs.Run.{Line, due, silent, start, fed, finished, lines_fed, lines_of}
+use Rattle.readings_reader.specs.Run.{Line, due, start, fed, cut_off, finished, lines_fed, lines_of}
 use Rattle.readings_reader.proofs.Whole.{whole_run}
 use Rattle.readings_steps.specs.declared.step.Step.{Step}
 use Rattle.readings_steps.specs.Steps.{fed_all, turns_fed, step_of}
@@ -150,8 +149,8 @@ unfolding finished
 run_ends {t} r = ap (λ t. t.more) r.last ∙ go (fed_all start (joined r.reads))
   where
     go : (m : Reader) → (finished m).more ≡ false
-    go m = at m.begun
+    go m = at m.command
       where
-        at : (b : Bool) → (pick b (over m.turn.session) (silent m.turn.session false)).more ≡ false
-        at true = refl
-        at false = refl
+        at : (c : Option ℕ) → (cut_off m.turn.session c).more ≡ false
+        at (Some c) = refl
+        at None = refl

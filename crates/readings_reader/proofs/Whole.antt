@@ -14,7 +14,7 @@ use borrow.Author.Tests.{le-leb, lt-leb, lt-ltb, eq-eqb, ne_eqb}
 use Rattle.scheme.specs.Numbers.{pick}
 use Rattle.readings_commands.specs.Commands.{operands, over, turn_of}
 use Rattle.readings_reader.specs.Run.{Line, due, lines_within, lines_of, silent, start, settled_by, fed, finished, lines_fed}
-use Rattle.std.proofs.Common.{None}
+use Rattle.std.proofs.Common.{Some, None}
 use Rattle.readings_core.specs.Program.{Session}
 use Rattle.readings_core.specs.declared.command.Turn.{Turn}
 use Rattle.readings_reader.specs.declared.reader.Reader.{Reader}
@@ -39,11 +39,11 @@ cut s c xs h = go (ℕ_discrete c 1) (ℕ_discrete c 2)
     go (no p) (no r) = rw (ne_eqb c 1 p, ne_eqb c 2 r) refl
 
 -- after 19 there are no lines
-pub ended : (m : Reader) → m.turn.more ≡ false → m.begun ≡ false → (xs : List ℕ) → lines_fed m xs ≡ []
+pub ended : (m : Reader) → m.turn.more ≡ false → m.command ≡ None → (xs : List ℕ) → lines_fed m xs ≡ []
 unfolding lines_fed finished fed
 ended m e b xs = go xs m e b
   where
-    go : (xs : List ℕ) (m : Reader) → m.turn.more ≡ false → m.begun ≡ false → lines_fed m xs ≡ []
+    go : (xs : List ℕ) (m : Reader) → m.turn.more ≡ false → m.command ≡ None → lines_fed m xs ≡ []
     go [] m e b = rw b refl
     go (x ∷ xs) m e b = rw e (go xs _ refl refl)
 
@@ -51,15 +51,14 @@ ended m e b xs = go xs m e b
 pub record Waits (s : Session) (m : Reader) : Type 0 where
   pub in_session : m.turn.session ≡ s
   pub goes_on : m.turn.more ≡ true
-  pub none_begun : m.begun ≡ false
+  pub none_begun : m.command ≡ None
   pub room : length m.held ≡ 6
 
 -- a reader that has the command c and the operand bytes zs, fewer than it takes
 pub record Gathers (s : Session) (c : ℕ) (zs : List ℕ) (m : Reader) : Type 0 where
   pub in_session : m.turn.session ≡ s
   pub goes_on : m.turn.more ≡ true
-  pub one_begun : m.begun ≡ true
-  pub the_command : m.command ≡ c
+  pub the_command : m.command ≡ Some c
   pub room : length m.held ≡ 6
   pub counted : m.count ≡ length zs
   pub holds : take (length zs) m.held ≡ zs
@@ -67,7 +66,7 @@ pub record Gathers (s : Session) (c : ℕ) (zs : List ℕ) (m : Reader) : Type 0
 
 -- such a reader
 abbrev begins : Session → ℕ → List ℕ → ℕ → Reader
-begins s c hs k = record { turn = silent s true; begun = true; command = c; held = hs; count = k }
+begins s c hs k = record { turn = silent s true; command = Some c; held = hs; count = k }
 
 begins-so : (s : Session) (c : ℕ) (hs : List ℕ) (k : ℕ) → k < operands c → settled_by s c hs k ≡ begins s c hs k
 begins-so s c hs k h = rw (lt-leb (operands c) k h) refl
@@ -78,7 +77,7 @@ module _ {s : Session} {c : ℕ} {zs : List ℕ} {m : Reader} (g : Gathers s c z
   fed_gathers : (y : ℕ) → fed m y ≡ settled_by s c (set m.held (length zs) y) (length zs + 1)
   unfolding fed
   fed_gathers y =
-      rw (g.goes_on, g.one_begun, g.in_session, g.the_command, g.counted, lt-ltb (length zs) 6 (omega (arith, g.short, few c))) refl
+      rw (g.goes_on, g.the_command, g.in_session, g.counted, lt-ltb (length zs) 6 (omega (arith, g.short, few c))) refl
 
   -- the operand bytes with y
   held_more : (y : ℕ) → take (length zs + 1) (set m.held (length zs) y) ≡ zs ++ y ∷ []
@@ -90,7 +89,7 @@ module _ {s : Session} {c : ℕ} {zs : List ℕ} {m : Reader} (g : Gathers s c z
 -- the end of the input, in the midst of a command
 cut_short : {s : Session} {c : ℕ} {zs : List ℕ} {m : Reader} → Gathers s c zs m → lines_fed m [] ≡ due (over s)
 unfolding lines_fed finished
-cut_short g = rw g.one_begun refl
+cut_short g = rw g.the_command refl
 
 fed_waits : {s : Session} {m : Reader} → Waits s m → (c : ℕ) → fed m c ≡ settled_by s c m.held 0
 unfolding fed
@@ -119,7 +118,7 @@ module _ (n : ℕ) (known : Known n) where
   after-whole s c hs k ys r h l = ap (λ m. from m ys) whole ∙ ap (λ (xs : List Line). due (turn_of s c (take k hs)) ++ xs) (go (turn_of s c (take k hs)).more refl)
     where
       there : Reader
-      there = record { turn = turn_of s c (take k hs); begun = false; command = c; held = hs; count = 0 }
+      there = record { turn = turn_of s c (take k hs); command = None; held = hs; count = 0 }
 
       whole : settled_by s c hs k ≡ there
       whole = rw (le-leb (operands c) k h) refl
@@ -164,7 +163,6 @@ module _ (n : ℕ) (known : Known n) where
           (record {
             in_session = refl;
             goes_on = refl;
-            one_begun = refl;
             the_command = refl;
             room = room-left;
             counted = sym longer;
@@ -195,7 +193,6 @@ next n known s m w (c ∷ xs) l = lines_next m c xs ∙ ap (λ r. from r xs) (fe
         (record {
           in_session = refl;
           goes_on = refl;
-          one_begun = refl;
           the_command = refl;
           room = w.room;
           counted = refl;

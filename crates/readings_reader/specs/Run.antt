@@ -1,24 +1,22 @@
 -- A whole run of the program: its commands one after the other, and the same byte by byte.
-use Rattle.std.specs.Prelude.{Bool, true, false, List, [], ◌∷◌, ◌++◌, ℕ, zero, suc, ◌+◌, leb, ltb, ℤ, length, take, drop, set, None}
+use Rattle.std.specs.Prelude.{Bool, true, false, List, [], ◌∷◌, ◌++◌, ℕ, zero, suc, ◌+◌, leb, ltb, ℤ, length, take, drop, set, Option, Some, None, Result}
 use Rattle.scheme.specs.Numbers.{pick}
 use Rattle.readings_core.specs.Program.{Session, no_digits}
 use Rattle.readings_commands.specs.Commands.{operands, over, turn_of}
+use Rattle.check_order.specs.declared.refusal.Refusal.{Refusal}
 use Rattle.readings_core.specs.declared.command.Reply.{Reply}
-use Rattle.readings_core.specs.declared.command.Reply.TheVariants.{Nothing, Basis, Word, Refused}
 use Rattle.readings_core.specs.declared.command.Turn.{Turn}
 use Rattle.readings_reader.specs.declared.reader.Reader.{Reader}
 
 -- a line of output: an answer, of a word its digits besides
 pub record Line : Type 0 where
-  pub reply : Reply
+  pub reply : Result Reply Refusal
   pub digits : List ℤ
 
--- the line of an answer
-abbrev pub said : Reply → List ℤ → List Line
-said Nothing ds = []
-said (Basis r) ds = record { reply = Basis r; digits = ds } ∷ []
-said (Word r) ds = record { reply = Word r; digits = ds } ∷ []
-said (Refused n) ds = record { reply = Refused n; digits = ds } ∷ []
+-- the line of an answer, where there is one
+abbrev pub said : Option (Result Reply Refusal) → List ℤ → List Line
+said None ds = []
+said (Some r) ds = record { reply = r; digits = ds } ∷ []
 
 abbrev pub due : Turn → List Line
 due t = said t.reply t.digits
@@ -41,12 +39,12 @@ lines_of xs = lines_within (length xs) None xs
 -- ---- byte by byte
 
 abbrev pub silent : Session → Bool → Turn
-silent s more = record { reply = Nothing; digits = no_digits; session = s; more = more }
+silent s more = record { reply = None; digits = no_digits; session = s; more = more }
 
 -- before the first byte
 abbrev pub start : Reader
 start =
-    record { turn = silent None true; begun = false; command = 0; held = 0 ∷ 0 ∷ 0 ∷ 0 ∷ 0 ∷ 0 ∷ []; count = 0 }
+    record { turn = silent None true; command = None; held = 0 ∷ 0 ∷ 0 ∷ 0 ∷ 0 ∷ 0 ∷ []; count = 0 }
 
 -- the operand bytes with one more, of at most six
 abbrev pub put : List ℕ → ℕ → ℕ → List ℕ
@@ -59,21 +57,28 @@ one_more n = pick (ltb n 6) (n + 1) 6
 abbrev pub settled_by : Session → ℕ → List ℕ → ℕ → Reader
 settled_by s c xs n =
     pick (leb (operands c) n)
-    (record { turn = turn_of s c (take n xs); begun = false; command = c; held = xs; count = 0 })
-    (record { turn = silent s true; begun = true; command = c; held = xs; count = n })
+    (record { turn = turn_of s c (take n xs); command = None; held = xs; count = 0 })
+    (record { turn = silent s true; command = Some c; held = xs; count = n })
 
--- one byte more: the operand of a command that has begun, or the next command
+-- the operand of a command that has begun, or the next command
+abbrev pub taken : Reader → ℕ → Option ℕ → Reader
+taken m x (Some c) = settled_by m.turn.session c (put m.held m.count x) (one_more m.count)
+taken m x None = settled_by m.turn.session x m.held 0
+
+-- one byte more
 unfoldable pub fed : Reader → ℕ → Reader
 fed m x =
-    pick m.turn.more
-    (pick m.begun
-    (settled_by m.turn.session m.command (put m.held m.count x) (one_more m.count))
-    (settled_by m.turn.session x m.held 0))
-    (record { turn = silent m.turn.session false; begun = false; command = 0; held = m.held; count = 0 })
+    pick m.turn.more (taken m x m.command)
+    (record { turn = silent m.turn.session false; command = None; held = m.held; count = 0 })
+
+-- a command that has begun is cut off by the end of the input
+abbrev pub cut_off : Session → Option ℕ → Turn
+cut_off s (Some c) = over s
+cut_off s None = silent s false
 
 -- the end of the input
 unfoldable pub finished : Reader → Turn
-finished m = pick m.begun (over m.turn.session) (silent m.turn.session false)
+finished m = cut_off m.turn.session m.command
 
 -- the lines that fall due as the bytes xs are fed, and at their end
 unfoldable pub lines_fed : Reader → List ℕ → List Line

@@ -2,24 +2,25 @@
 ghost use Rattle.std.specs.Prelude.{◌≡◌, ◌≤◌};
 ghost use Rattle.readings_reader.specs.Run.{silent, start, put, one_more, settled_by, fed, finished};
 
-use readings_core::{Reply, Session, Turn};
+use readings_core::{Session, Turn};
 
-// The answer to the last byte, and a command that has begun: its byte, and the operand bytes that came so far.
+// The answer to the last byte, and the byte of a command that has begun, with the operand bytes that came so far.
 #[derive(Clone, Copy)]
 pub struct Reader {
     pub turn: Turn,
-    pub begun: bool,
-    pub command: u8,
+    pub command: Option<u8>,
+    // Stays: an array and how much of it is filled: fixed memory, since the program has no heap.
     pub held: [u8; 6],
     pub count: usize,
 }
 
 // No line: a command is not whole yet, or there is none.
+#[tactic(auto, unfolding(readings_digits::specs::Digits::numbers))]
 fn quiet(session: Session, more: bool) -> Turn
     ensures { result ≡ silent session more }
 {
     Turn {
-        reply: Reply::Nothing,
+        reply: None,
         digits: [0; 16],
         session,
         more,
@@ -51,16 +52,14 @@ fn settled(session: Session, command: u8, held: [u8; 6], count: usize) -> Reader
     if readings_commands::operand_count(command) <= count {
         return Reader {
             turn: readings_commands::answer(session, command, &held[..count]),
-            begun: false,
-            command,
+            command: None,
             held,
             count: 0,
         };
     }
     Reader {
         turn: quiet(session, true),
-        begun: true,
-        command,
+        command: Some(command),
         held,
         count,
     }
@@ -73,14 +72,14 @@ impl Reader {
     {
         Reader {
             turn: quiet(None, true),
-            begun: false,
-            command: 0,
+            command: None,
             held: [0; 6],
             count: 0,
         }
     }
 
     // One byte more. After 19 it changes nothing.
+    #[tactic(auto, unfolding(crate::specs::Run::fed))]
     pub fn feed(self, byte: u8) -> Reader
         ensures { result ≡ fed self byte }
     {
@@ -88,31 +87,35 @@ impl Reader {
         let session = turn.session;
         let held = self.held;
         if turn.more {
-            if self.begun {
-                let count = self.count;
-                let held = with_operand(held, count, byte);
-                return settled(session, self.command, held, one_more(count));
-            }
-            return settled(session, byte, held, 0);
+            let count = self.count;
+            return match self.command {
+                Some(command) => settled(
+                    session,
+                    command,
+                    with_operand(held, count, byte),
+                    one_more(count),
+                ),
+                None => settled(session, byte, held, 0),
+            };
         }
         Reader {
             turn: quiet(session, false),
-            begun: false,
-            command: 0,
+            command: None,
             held,
             count: 0,
         }
     }
 
     // The end of the input: a command that has begun is cut off, by 19.
+    #[tactic(auto, unfolding(crate::specs::Run::finished))]
     pub fn finish(self) -> Turn
         ensures { result ≡ finished self }
     {
         let turn = self.turn;
         let session = turn.session;
-        if self.begun {
-            return readings_commands::end(session);
+        match self.command {
+            Some(_) => readings_commands::end(session),
+            None => quiet(session, false),
         }
-        quiet(session, false)
     }
 }

@@ -9,8 +9,10 @@ use readings_reader::Reader;
 #[derive(Clone, Copy)]
 pub struct Step {
     pub reader: Reader,
+    // Stays: an array and how much of it is filled: fixed memory, since the program has no heap.
     pub turns: [Turn; 64],
     pub count: usize,
+    // Stays: a fact of its own, and no flag of a value beside it: the other fields hold either way.
     pub ended: bool,
 }
 

@@ -34,11 +34,13 @@ fn print_refusal(out: &mut impl Write, refusal: Refusal) {
 
 // No line where there is nothing to say.
 pub fn print_turn(out: &mut impl Write, t: Turn) {
-    match t.reply {
-        Reply::Nothing => return,
-        Reply::Basis(r) => print_basis(out, r),
-        Reply::Word(r) => print_word(out, r, t.digits),
-        Reply::Refused(refusal) => print_refusal(out, refusal),
+    let Some(reply) = t.reply else {
+        return;
+    };
+    match reply {
+        Ok(Reply::Basis(r)) => print_basis(out, r),
+        Ok(Reply::Word(r)) => print_word(out, r, t.digits),
+        Err(refusal) => print_refusal(out, refusal),
     }
     let _ = out.write_all(b"\n");
 }

@@ -1,4 +1,4 @@
-use Rattle.readings_files.proofs.Runs.{begin, again, stop, spent}
+use Rattle.readings_files.proofs.Runs.{begin, again, stop}
 use Rattle.readings_files.proofs.run.Goals as goal
 
 pub loop-read-init : goal.loop-read-init

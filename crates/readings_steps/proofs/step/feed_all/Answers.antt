@@ -1,4 +1,4 @@
-use Rattle.std.proofs.Common.{◌≡◌, ◌+◌, refl, ap, ◌∙◌, arith, length, take}
+use Rattle.std.proofs.Common.{◌≡◌, ◌+◌, refl, ap, ◌∙◌, length, take}
 use Rattle.std.proofs.Math.ListN.{set}
 use Rattle.readings_steps.specs.Steps.{turns_fed, places}
 use Rattle.readings_steps.proofs.Fed.{fed_none, fed-next, no_turns, length-places, put_next, full_next, step_so}

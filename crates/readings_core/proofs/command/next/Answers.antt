@@ -1,7 +1,0 @@
-use mathlib.Core.Path.{refl}
-use Rattle.readings_digits.specs.Digits.{numbers}
-use Rattle.readings_core.proofs.command.next.Goals as goal
-
-pub returns : goal.returns
-unfolding numbers
-returns c = refl
