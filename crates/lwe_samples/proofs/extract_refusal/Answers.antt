@@ -4,10 +4,7 @@ use Rattle.lwe_samples.specs.Answers.{extract_rows}
 use Rattle.lwe_samples.proofs.extract_refusal.Goals as goal
 
 pub returns-in_err-judge : goal.returns-in_err-judge
-returns-in_err-judge c =
-    rw (handed_on _ c.from_residual.ensures.1)
-    (first_size (extract_rows c.args.modulus c.args.dimension.0 c.args.input.now c.args.index c.args.room) _ _ c.in_err-judge.ensures (search rules))
+returns-in_err-judge c = rw (handed_on _ c.from_residual.ensures.1) (first_size _ _ _ c.in_err-judge.ensures (search rules))
 
 pub returns : goal.returns
-returns c =
-    first_value (extract_rows c.args.modulus c.args.dimension.0 c.args.input.now c.args.index c.args.room) _ _ _ c.in_ok-judge.ensures (search rules) c.judge-2.ensures (search rules)
+returns c = first_value _ _ _ _ c.in_ok-judge.ensures (search rules) c.judge-2.ensures (search rules)
