@@ -21,9 +21,9 @@ use Rattle.gadget_constants.specs.declared.prepared.PreparedBasis.{PreparedBasis
 use Rattle.gadget_digits.specs.Column.{step_digit}
 use Rattle.gadget_constants.specs.Prepared.{basis_in}
 use Rattle.key_switch_tile.specs.Rows.{Near}
-use Rattle.key_switch_tile.specs.Tile.{tile, lane, Place, PlaceRoom, Placed, Shaped, Lanes, begun, Reached}
+use Rattle.key_switch_tile.specs.Tile.{lane, PlaceRoom, Placed, Shaped, Lanes, begun, Reached}
 use Rattle.key_switch_tile.proofs.Lanes.{in_run}
-use Rattle.key_switch_tile.proofs.Walks.{q_pos, q_most, twice, levels-most, digit-near, start-most, reached_start, reached_next, place_asks}
+use Rattle.key_switch_tile.proofs.Walks.{q_pos, q_most, twice, levels-most, digit-near, start-most, reached_start, reached_next}
 use Rattle.key_switch_accumulate.specs.Rows.{Kept}
 
 -- the numbers that the loop is set up with: q, B/2, the most that a place adds, and the limit that leaves room for it
@@ -101,13 +101,13 @@ module _ {p : PreparedBasis} {n m rows : ℕ} {input key : List ℕ} (sh : Shape
                   (g.reached.word t c u v);
             }
 
+        pub kept_sized : length acc₁ ≡ rows * (m + 1)
+        kept_sized = reached₁.sized
+
         pub ceiling_fits : r + cost < 2 ^ 64
         ceiling_fits = omega (arith, kp.low, small, k.costs, k.leaves)
 
         module _ {lanes : List SignedDecomposer} (l : Lanes p n rows i input lanes) where
-          pub walk_asks : rows ≤ tile → Place (m + 1) rows p.level_count (i * (p.level_count * (m + 1))) lanes key (map (λ x. x) acc₁)
-          walk_asks few = rw (map-id acc₁) (place_asks sh few i inside lanes l acc₁ reached₁.sized)
-
           near : (t j : ℕ) → t < rows → j < p.level_count → Near q h (step_digit (lane lanes t) j)
           near t j u v =
               subst (λ z. Near q z (step_digit (lane lanes t) j)) (sym k.halved)

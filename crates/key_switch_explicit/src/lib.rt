@@ -3,11 +3,10 @@
 
 ghost use Rattle.std.specs.Prelude.{◌≡◌, ◌+◌, ◌-◌, ◌*◌, ◌/◌, ◌^◌, ◌<◌, ◌≤◌, length};
 ghost use Rattle.primus_reduce.specs.declared.modulus.Modulus.TheVariants.{Explicit};
-ghost use Rattle.scheme.specs.Switch.{switched_batch};
-ghost use Rattle.gadget_constants.specs.Prepared.{basis_in};
-ghost use Rattle.key_switch_tile.specs.Tile.{tile, Shaped, Reached, begun};
+ghost use Rattle.key_switch_tile.specs.Switched.{switched_tile};
+ghost use Rattle.key_switch_tile.specs.Tile.{Reached, begun};
 
-use key_switch_tile::{Kernel, Shape};
+use key_switch_tile::{Kernel, Tile};
 use primus_reduce::Divisor;
 
 // Exact sums of 64 bits, for a basis with this half and this modulus.
@@ -50,11 +49,13 @@ fn cost_of(levels: usize, half: u32, q: u32) -> u64
 }
 
 // The rows go through all n places. No accumulator is above `ceiling`.
-fn walk(acc: &mut [u64], input: &[u32], key: &[u32], rows: usize, q: Divisor, s: Shape)
-    requires { (rows ≤ tile) × Shaped s.basis s.n s.m rows input.now key.now × (s.basis.modulus ≡ Explicit q.q)
-        × (acc.old ≡ begun s.n s.m rows input.now) }
-    ensures { Reached s.basis s.n s.m rows s.n input.now key.now acc.new }
+fn walk(acc: &mut [u64], tile: Tile, q: Divisor)
+    requires { (tile.shape.basis.modulus ≡ Explicit q.q)
+        × (acc.old ≡ begun tile.shape.n tile.shape.m tile.rows tile.input.now) }
+    ensures { Reached tile.entry.shape.basis tile.entry.shape.n tile.entry.shape.m tile.entry.rows tile.entry.shape.n
+        tile.entry.input.now tile.entry.key.now acc.new }
 {
+    let s = tile.shape;
     let half = half_of(s.basis.log_basis);
     let kernel = ExplicitKernel { half, q };
     let cost = cost_of(s.basis.level_count, half, q.q);
@@ -62,30 +63,20 @@ fn walk(acc: &mut [u64], input: &[u32], key: &[u32], rows: usize, q: Divisor, s:
     let mut ceiling = u64::from(q.q);
     for i in 0..s.n {
         ceiling = key_switch_accumulate::keep_room(acc, ceiling, limit, q);
-        let lanes = key_switch_tile::lanes_of(input, i, rows, s);
-        key_switch_tile::place(&kernel, acc, key, i, lanes, rows, s);
+        let lanes = tile.lanes(i);
+        tile.place(&kernel, acc, i, lanes);
         ceiling += cost;
     }
 }
 
 // Switches the rows; acc is room for their accumulators.
-pub fn switch_tile(
-    acc: &mut [u64],
-    out: &mut [u32],
-    input: &[u32],
-    key: &[u32],
-    rows: usize,
-    q: u32,
-    s: Shape,
-)
-    requires { (rows ≤ tile) × Shaped s.basis s.n s.m rows input.now key.now × (s.basis.modulus ≡ Explicit q)
-        × (length acc.old ≡ rows * (s.m + 1)) × (length out.old ≡ rows * (s.m + 1)) }
-    ensures { out.new
-        ≡ switched_batch (basis_in s.basis) s.n s.m key.now rows input.now }
+pub fn switch_tile(acc: &mut [u64], out: &mut [u32], tile: Tile, q: Divisor)
+    requires { (tile.shape.basis.modulus ≡ Explicit q.q) × (length acc.old ≡ tile.rows * (tile.shape.m + 1))
+        × (length out.old ≡ tile.rows * (tile.shape.m + 1)) }
+    ensures { out.new ≡ switched_tile tile.entry }
 {
-    let q = Divisor { q };
-    key_switch_tile::start(out, input, rows, s);
+    tile.start(out);
     key_switch_accumulate::load(acc, out);
-    walk(acc, input, key, rows, q, s);
+    walk(acc, tile, q);
     key_switch_accumulate::reduce_to(out, acc, q);
 }

@@ -1,26 +1,19 @@
 -- The loop over the tiles of a batch.
 -- Assumes nothing.
-use mathlib.Core.Path.{◌≡◌, sym, ◌∙◌, ap, ap₂, subst}
+use mathlib.Core.Path.{◌≡◌, ◌∙◌, ap, ap₂}
 use mathlib.Core.List.{List, ◌++◌}
 use Prim.Native.Nat.{ℕ, ◌+◌, ◌*◌, ◌-◌, ◌/◌, ◌%◌, ◌<◌, ◌≤◌, min}
 use native.Mathlib.Omega.{arith}
 use native.Mathlib.Nat.{mul-le-mul, mul-le-mul_right, add-mul}
-use lib.ListN.{length, take, drop, length-take, length-drop}
-use lib.Seq.{length-take-le, length_front, get_or-take, get_or-drop}
+use lib.ListN.{length, take, drop, length-drop}
+use lib.Seq.{length-take-le, length_front}
 use Rattle.scheme.specs.Lwe.{row_of}
-use Rattle.scheme.specs.Switch.{Below, switched, switched_batch}
+use Rattle.scheme.specs.Switch.{switched, switched_batch}
 use Rattle.scheme.proofs.Rows.{Filling, filling_start, filling_group, filling_end, rows_ext, part_of_part}
 use Rattle.scheme.proofs.Switch.{state_length}
-use Rattle.primus_reduce.specs.Ring.{size_of}
 use Rattle.gadget_constants.specs.declared.prepared.PreparedBasis.{PreparedBasis}
 use Rattle.gadget_constants.specs.Prepared.{basis_in}
 use Rattle.key_switch_tile.specs.Tile.{tile, Shaped}
-
--- words below q, in a part too
-below_part : (q k w : ℕ) (X : List ℕ) → Below q X → Below q (take w (drop k X))
-below_part q k w X h i l =
-    let b : (i < w) × (k + i < length X) = omega (arith, length-take w (drop k X), length-drop k X) in
-    subst (λ x. x < q) (sym (get_or-take w (drop k X) i 0 b.0 ∙ get_or-drop k X i 0)) (h (k + i) b.1)
 
 -- the accumulators of a tile
 abbrev pub accumulators : ℕ
@@ -79,28 +72,13 @@ module _ {p : PreparedBasis} {n m count : ℕ} {input key : List ℕ} (sh : Shap
   wide : (a w : ℕ) → a + w - a ≡ w
   wide a w = omega arith
 
-  tile_shaped : Shaped p n m rows (take (u * tile * (n + 1) + rows * (n + 1) - u * tile * (n + 1)) (drop (u * tile * (n + 1)) input)) key
-  tile_shaped =
-      record {
-        ready = sh.ready;
-        narrow = sh.narrow;
-        short = sh.short;
-        inputs =
-            length-take-le _ (drop (u * tile * (n + 1)) input) (omega (arith, length-drop (u * tile * (n + 1)) input, in_inside))
-            ∙ wide (u * tile * (n + 1)) (rows * (n + 1));
-        keyed = sh.keyed;
-        words = below_part (size_of p.modulus) (u * tile * (n + 1)) (u * tile * (n + 1) + rows * (n + 1) - u * tile * (n + 1)) input sh.words;
-        keys = sh.keys;
-      }
-
   out_sized : length (take (u * tile * (m + 1) + rows * (m + 1) - u * tile * (m + 1)) (drop (u * tile * (m + 1)) out)) ≡ rows * (m + 1)
   out_sized =
       length-take-le _ (drop (u * tile * (m + 1)) out) (omega (arith, length-drop (u * tile * (m + 1)) out, out_inside)) ∙ wide (u * tile * (m + 1)) (rows * (m + 1))
 
   pub tile_asks : (acc : List ℕ) → length acc ≡ accumulators
-      → (rows ≤ tile) × Shaped p n m rows (take (u * tile * (n + 1) + rows * (n + 1) - u * tile * (n + 1)) (drop (u * tile * (n + 1)) input)) key
-      × (length (take (rows * (m + 1)) acc) ≡ rows * (m + 1)) × (length (take (u * tile * (m + 1) + rows * (m + 1) - u * tile * (m + 1)) (drop (u * tile * (m + 1)) out)) ≡ rows * (m + 1))
-  tile_asks acc e = (few, tile_shaped, acc_sized acc _ e acc_inside, out_sized)
+      → (length (take (rows * (m + 1)) acc) ≡ rows * (m + 1)) × (length (take (u * tile * (m + 1) + rows * (m + 1) - u * tile * (m + 1)) (drop (u * tile * (m + 1)) out)) ≡ rows * (m + 1))
+  tile_asks acc e = (acc_sized acc _ e acc_inside, out_sized)
 
   pub batching_on : {run : List ℕ} → run ≡ switched_batch (basis_in p) n m key rows (take (u * tile * (n + 1) + rows * (n + 1) - u * tile * (n + 1)) (drop (u * tile * (n + 1)) input))
       → {room' : ℕ} → room' ≡ accumulators

@@ -1,30 +1,27 @@
 // Batches, a tile at a time, each by the kernel of its modulus. A crate below, not for users: its call has demands.
 #![tactic(auto)]
 
-ghost use Rattle.std.specs.Prelude.{◌≡◌, ◌+◌, ◌*◌, ◌≤◌, length};
+ghost use Rattle.std.specs.Prelude.{◌≡◌, ◌+◌, ◌*◌, length};
 ghost use Rattle.scheme.specs.Switch.{switched_batch};
 ghost use Rattle.gadget_constants.specs.Prepared.{basis_in};
-ghost use Rattle.key_switch_tile.specs.Tile.{tile, Shaped};
+ghost use Rattle.key_switch_tile.specs.Switched.{switched_tile};
+ghost use Rattle.key_switch_tile.specs.Tile.{Shaped};
 
-use key_switch_tile::{Shape, TILE};
+use key_switch_tile::{Shape, TILE, Tile};
 use primus_lattice::LweDimension;
-use primus_reduce::Modulus;
+use primus_reduce::{Divisor, Modulus};
 
 // Room for the accumulators of a tile, each row of the largest dimension and a body.
 const ACCUMULATORS: usize = TILE * (LweDimension::MAX + 1);
 
 // One tile; acc is room for the accumulators of an explicit modulus.
-fn switch_tile(acc: &mut [u64], out: &mut [u32], input: &[u32], key: &[u32], rows: usize, s: Shape)
-    requires { (rows ≤ tile) × Shaped s.basis s.n s.m rows input.now key.now
-        × (length acc.old ≡ rows * (s.m + 1)) × (length out.old ≡ rows * (s.m + 1)) }
-    ensures { out.new
-        ≡ switched_batch (basis_in s.basis) s.n s.m key.now rows input.now }
+fn switch_tile(acc: &mut [u64], out: &mut [u32], tile: Tile)
+    requires { (length acc.old ≡ tile.rows * (tile.shape.m + 1)) × (length out.old ≡ tile.rows * (tile.shape.m + 1)) }
+    ensures { out.new ≡ switched_tile tile.entry }
 {
-    match s.basis.modulus {
-        Modulus::Native => key_switch_native::switch_tile(out, input, key, rows, s),
-        Modulus::Explicit(q) => {
-            key_switch_explicit::switch_tile(acc, out, input, key, rows, q, s)
-        }
+    match tile.shape.basis.modulus {
+        Modulus::Native => key_switch_native::switch_tile(out, tile),
+        Modulus::Explicit(q) => key_switch_explicit::switch_tile(acc, out, tile, Divisor { q }),
     }
 }
 
@@ -43,13 +40,12 @@ pub fn switch_tiles(out: &mut [u32], input: &[u32], key: &[u32], count: usize, s
         let to = from + room;
         let first = done * (s.n + 1);
         let last = first + rows * (s.n + 1);
-        switch_tile(
-            &mut acc[..room],
-            &mut out[from..to],
-            &input[first..last],
+        let tile = Tile {
+            input: &input[first..last],
             key,
             rows,
-            s,
-        );
+            shape: s,
+        };
+        switch_tile(&mut acc[..room], &mut out[from..to], tile);
     }
 }

@@ -1,6 +1,6 @@
 -- The loop over the places, for words that wrap.
 -- Assumes nothing.
-use Rattle.std.proofs.Common.{◌≡◌, ℕ, ◌+◌, ◌-◌, ◌*◌, ◌^◌, ◌<◌, ◌≤◌, List, map, get_or, sym, ◌∙◌, subst, arith}
+use Rattle.std.proofs.Common.{◌≡◌, ℕ, ◌+◌, ◌-◌, ◌*◌, ◌^◌, ◌<◌, List, map, get_or, sym, ◌∙◌, subst, arith}
 use Rattle.std.proofs.lemmas.List.{map-id}
 use Rattle.scheme.specs.Switch.{switched_batch}
 use Rattle.scheme.proofs.Residue.{residue_cong, word-residue}
@@ -10,8 +10,8 @@ use Rattle.gadget_digits.specs.declared.SignedDecomposer.{SignedDecomposer}
 use Rattle.gadget_digits.specs.Column.{step_digit}
 use Rattle.gadget_constants.specs.declared.prepared.PreparedBasis.{PreparedBasis}
 use Rattle.gadget_constants.specs.Prepared.{basis_in}
-use Rattle.key_switch_tile.specs.Tile.{tile, lane, Shaped, Lanes, Place, PlaceRoom, Placed, Reached}
-use Rattle.key_switch_tile.proofs.Walks.{q_pos, reached_next, place_asks, digit-near, levels_few}
+use Rattle.key_switch_tile.specs.Tile.{lane, Shaped, Lanes, PlaceRoom, Placed, Reached}
+use Rattle.key_switch_tile.proofs.Walks.{q_pos, reached_next, digit-near, levels_few}
 
 module _ {p : PreparedBasis} {n m rows : ℕ} {input key : List ℕ} (sh : Shaped p n m rows input key) (e : size_of p.modulus ≡ 2 ^ 32) where
   -- words below 2^32 are the residues
@@ -21,9 +21,6 @@ module _ {p : PreparedBasis} {n m rows : ℕ} {input key : List ℕ} (sh : Shape
       (λ t c h k. sym (word-residue (size_of p.modulus) (get_or out (t * (m + 1) + c) 0) (subst (λ z. get_or out (t * (m + 1) + c) 0 < z) (sym e) (small _))) ∙ residue_cong (q_pos sh) (rw all at (r.word t c h k)))
 
   module _ {i : ℕ} (h : i < n) {lanes : List SignedDecomposer} (l : Lanes p n rows i input lanes) {out : List ℕ} (g : Reached p n m rows i input key out) where
-    pub wrapping_asks : rows ≤ tile → Place (m + 1) rows p.level_count (i * (p.level_count * (m + 1))) lanes key (map (λ x. x) out)
-    wrapping_asks few = rw (map-id out) (place_asks sh few i h lanes l out g.sized)
-
     pub wrapping_room : ((k : ℕ) → get_or out k 0 < 2 ^ 32) → PlaceRoom (2 ^ 32) (2 ^ 31) (2 ^ 32 - 1) (m + 1) rows p.level_count lanes key (map (λ x. x) out)
     wrapping_room small =
         rw (map-id out)

@@ -2,14 +2,12 @@
 // A crate below, not for users: its call has demands.
 #![tactic(auto)]
 
-ghost use Rattle.std.specs.Prelude.{◌≡◌, ◌+◌, ◌-◌, ◌*◌, ◌^◌, ◌≤◌, length, map};
-ghost use Rattle.scheme.specs.Switch.{switched_batch};
+ghost use Rattle.std.specs.Prelude.{◌≡◌, ◌+◌, ◌-◌, ◌*◌, ◌^◌, length, map};
 ghost use Rattle.primus_reduce.specs.declared.modulus.Modulus.TheVariants.{Native};
-ghost use Rattle.gadget_constants.specs.Prepared.{basis_in};
 ghost use Rattle.key_switch_tile.specs.Rows.{Less};
-ghost use Rattle.key_switch_tile.specs.Tile.{tile, Shaped};
+ghost use Rattle.key_switch_tile.specs.Switched.{switched_tile};
 
-use key_switch_tile::{Kernel, Shape};
+use key_switch_tile::{Kernel, Tile};
 
 // row − digit × entry
 fn take_multiple(row: &mut [u32], entry: &[u32], digit: u32)
@@ -60,15 +58,13 @@ impl Kernel for NativeKernel {
 }
 
 // Switches the rows; the output is its own accumulator.
-pub fn switch_tile(out: &mut [u32], input: &[u32], key: &[u32], rows: usize, s: Shape)
-    requires { (rows ≤ tile) × Shaped s.basis s.n s.m rows input.now key.now × (s.basis.modulus ≡ Native)
-        × (length out.old ≡ rows * (s.m + 1)) }
-    ensures { out.new
-        ≡ switched_batch (basis_in s.basis) s.n s.m key.now rows input.now }
+pub fn switch_tile(out: &mut [u32], tile: Tile)
+    requires { (tile.shape.basis.modulus ≡ Native) × (length out.old ≡ tile.rows * (tile.shape.m + 1)) }
+    ensures { out.new ≡ switched_tile tile.entry }
 {
-    key_switch_tile::start(out, input, rows, s);
-    for i in 0..s.n {
-        let lanes = key_switch_tile::lanes_of(input, i, rows, s);
-        key_switch_tile::place(&NativeKernel, out, key, i, lanes, rows, s);
+    tile.start(out);
+    for i in 0..tile.shape.n {
+        let lanes = tile.lanes(i);
+        tile.place(&NativeKernel, out, i, lanes);
     }
 }

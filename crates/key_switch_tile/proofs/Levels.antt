@@ -14,7 +14,7 @@ use Rattle.gadget_digits.specs.declared.SignedDecomposer.{SignedDecomposer}
 use Rattle.gadget_digits.specs.declared.Step.{Step}
 use Rattle.gadget_digits.specs.Step.{step_of}
 use Rattle.key_switch_tile.specs.Rows.{Spare, Less}
-use Rattle.key_switch_tile.specs.Tile.{tile, lane, Level, LevelRoom, RowLess, Leveled}
+use Rattle.key_switch_tile.specs.Tile.{tile, lane, LevelRoom, RowLess, Leveled}
 use Rattle.key_switch_tile.proofs.Replaced.{replaced_in, replaced-length, row_other}
 
 -- the numbers of a part of w accumulators, and of the accumulators with that part replaced
@@ -29,6 +29,13 @@ module _ {W : Type 0} (number : W → ℕ) (raw : List W) (at w : ℕ) where
   number_new row =
       rw (width_is, map-append number (take at raw) (row ++ drop w (drop at raw)), map-append number row (drop w (drop at raw)), take-map number at raw, drop-map number at raw, drop-map number w (drop at raw))
       refl
+
+-- an entry of w words, and rows of w accumulators
+pub record Level (w rows : ℕ) (lanes : List SignedDecomposer) (entry acc : List ℕ) : Type 0 where
+  pub few : rows ≤ tile
+  pub count : length lanes ≡ tile
+  pub wide : length entry ≡ w
+  pub sized : length acc ≡ rows * w
 
 -- the rows below t are done
 pub record Rowing (q grow w rows : ℕ) (entry : List ℕ) (lanes₀ : List SignedDecomposer) (acc₀ : List ℕ) (lanes : List SignedDecomposer) (acc : List ℕ) (t : ℕ) : Type 0 where

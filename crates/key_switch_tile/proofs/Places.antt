@@ -1,6 +1,6 @@
 -- The loop over the levels of a place.
 -- Assumes nothing.
-use mathlib.Core.Path.{◌≡◌, refl, sym, ◌∙◌, ap₂, subst}
+use mathlib.Core.Path.{◌≡◌, refl, ◌∙◌, ap₂, subst}
 use mathlib.Core.List.{List}
 use Prim.Native.Nat.{ℕ, suc, ◌+◌, ◌*◌, ◌-◌, ◌<◌, ◌≤◌}
 use native.Mathlib.Omega.{arith}
@@ -17,7 +17,14 @@ use Rattle.gadget_digits.specs.declared.SignedDecomposer.{SignedDecomposer}
 use Rattle.gadget_digits.specs.Step.{step_of}
 use Rattle.gadget_digits.specs.Column.{after, step_digit}
 use Rattle.gadget_digits.proofs.Columns.{after_none, after_next}
-use Rattle.key_switch_tile.specs.Tile.{tile, lane, Level, LevelRoom, Leveled, Place, PlaceRoom, Placed, takes}
+use Rattle.key_switch_tile.specs.Tile.{tile, lane, LevelRoom, Leveled, PlaceRoom, Placed, takes}
+
+-- L entries, from `start` on
+pub record Place (w rows L start : ℕ) (lanes : List SignedDecomposer) (key acc : List ℕ) : Type 0 where
+  pub few : rows ≤ tile
+  pub count : length lanes ≡ tile
+  pub sized : length acc ≡ rows * w
+  pub keyed : start + L * w ≤ length key
 
 -- the levels below j are done
 pub record Sinking (q grow w rows L start : ℕ) (key : List ℕ) (lanes₀ : List SignedDecomposer) (acc₀ : List ℕ) (lanes : List SignedDecomposer) (acc : List ℕ) (j : ℕ) : Type 0 where
@@ -69,8 +76,7 @@ module _ {q grow w rows L start : ℕ} {key : List ℕ} {lanes₀ : List SignedD
     width_is : start + j * w + w - (start + j * w) ≡ w
     width_is = omega arith
 
-    entry_sized : length entry ≡ w
-    unfolding entry
+    pub entry_sized : length (take (start + j * w + w - (start + j * w)) (drop (start + j * w) key)) ≡ w
     entry_sized = length-take-le (start + j * w + w - (start + j * w)) (drop (start + j * w) key) (omega (arith, length-drop (start + j * w) key, in_key)) ∙ width_is
 
     entry_at : (c : ℕ) → c < w → get_or entry c 0 ≡ get_or key (start + j * w + c) 0
@@ -78,35 +84,23 @@ module _ {q grow w rows L start : ℕ} {key : List ℕ} {lanes₀ : List SignedD
     entry_at c k =
         get_or-take (start + j * w + w - (start + j * w)) (drop (start + j * w) key) c 0 (omega arith) ∙ get_or-drop (start + j * w) key c 0
 
-    -- a level is asked by the length of its entry
-    at_width : (P : ℕ → Type 0) → P w → P (length entry)
-    at_width P p = subst P (sym entry_sized) p
-
-    pub level_asks : Level (length (take (start + j * w + w - (start + j * w)) (drop (start + j * w) key))) rows lanes (take (start + j * w + w - (start + j * w)) (drop (start + j * w) key)) acc
-    unfolding entry
-    level_asks =
-        at_width (λ k. Level k rows lanes entry acc) record { few = g.asks.few; count = g.count; wide = entry_sized; sized = g.done.same ∙ g.asks.sized }
-
     pub level_room : {half : ℕ} → PlaceRoom q half grow w rows L lanes₀ key acc₀
-        → LevelRoom q half grow (length (take (start + j * w + w - (start + j * w)) (drop (start + j * w) key))) rows lanes (take (start + j * w + w - (start + j * w)) (drop (start + j * w) key)) acc
+        → LevelRoom q half grow w rows lanes (take (start + j * w + w - (start + j * w)) (drop (start + j * w) key)) acc
     unfolding entry
-    level_room {half} r = at_width (λ k. LevelRoom q half grow k rows lanes entry acc) room
-      where
-        room : LevelRoom q half grow w rows lanes entry acc
-        room =
-            record {
-              entries = λ c k.
-                  let k' : c < w = omega (arith, entry_sized) in
-                  rw (entry_at c k') (r.keys (start + j * w + c) (omega (arith, in_key)));
-              digits = λ t k. rw (g.state t k) (r.digits t j k h);
-              room = λ t c k l. omega (arith, g.done.most t c k l, r.room t c k l, mul-le-mul_right {m = suc j} {n = L} grow h);
-            }
+    level_room {half} r =
+        record {
+          entries = λ c k.
+              let k' : c < w = omega (arith, entry_sized) in
+              rw (entry_at c k') (r.keys (start + j * w + c) (omega (arith, in_key)));
+          digits = λ t k. rw (g.state t k) (r.digits t j k h);
+          room = λ t c k l. omega (arith, g.done.most t c k l, r.room t c k l, mul-le-mul_right {m = suc j} {n = L} grow h);
+        }
 
     module _ {lanes' : List SignedDecomposer} {acc' : List ℕ}
-        (r : Leveled q grow (length (take (start + j * w + w - (start + j * w)) (drop (start + j * w) key))) rows (take (start + j * w + w - (start + j * w)) (drop (start + j * w) key)) lanes acc lanes' acc') where
+        (r : Leveled q grow w rows (take (start + j * w + w - (start + j * w)) (drop (start + j * w) key)) lanes acc lanes' acc') where
       leveled : Leveled q grow w rows entry lanes acc lanes' acc'
       unfolding entry
-      leveled = subst (λ k. Leveled q grow k rows entry lanes acc lanes' acc') entry_sized r
+      leveled = r
 
       word_on : (t c : ℕ) → t < rows → c < w
           → Cong q (pos (get_or acc' (t * w + c) 0)) (pos (get_or acc₀ (t * w + c) 0) -ℤ takes w (j + 1) start key (lane lanes₀ t) c)

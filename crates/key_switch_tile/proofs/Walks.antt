@@ -34,8 +34,9 @@ use Rattle.gadget_digits.specs.Step.{decomposer_of}
 use Rattle.gadget_constants.proofs.Columns.{step_digits}
 use Rattle.gadget_constants.proofs.Constants.{decomposer_ready}
 use Rattle.key_switch_tile.specs.Rows.{Near}
-use Rattle.key_switch_tile.specs.Tile.{tile, lane, Place, Placed, takes, Shaped, Lanes, begun, Reached}
+use Rattle.key_switch_tile.specs.Tile.{tile, lane, Placed, takes, Shaped, Lanes, begun, Reached}
 use Rattle.key_switch_tile.proofs.Lanes.{in_run}
+use Rattle.key_switch_tile.proofs.Places.{Place}
 
 -- a stored digit is below B/2 or within B/2 of q
 pub stored-near : (q h : ℕ) (z : ℤ) → 0 < h → h + h ≤ q → Balanced h z → Near q h (stored q z)
@@ -149,7 +150,7 @@ module _ {p : PreparedBasis} {n m rows : ℕ} {input key : List ℕ} (sh : Shape
       }
 
   -- the key has the entries of place i
-  place_in : (i : ℕ) → i < n → i * (p.level_count * (m + 1)) + p.level_count * (m + 1) ≤ length key
+  pub place_in : (i : ℕ) → i < n → i * (p.level_count * (m + 1)) + p.level_count * (m + 1) ≤ length key
   place_in i h = omega (arith, sh.keyed, mul-le-mul_right {m = suc i} {n = n} (p.level_count * (m + 1)) h, assoc n p.level_count (m + 1))
     where
       assoc : (a b c : ℕ) → a * b * c ≡ a * (b * c)
@@ -177,6 +178,6 @@ module _ {p : PreparedBasis} {n m rows : ℕ} {input key : List ℕ} (sh : Shape
   pub levels_few : p.level_count ≤ 2 ^ 32
   levels_few = omega (arith, levels-most, mul-le-mul_left {m = 1} {n = 2 ^ p.log_basis} p.level_count (pow_pos p.log_basis))
 
-  pub place_asks : rows ≤ tile → (i : ℕ) → i < n → (lanes : List SignedDecomposer) → Lanes p n rows i input lanes
-      → (acc : List ℕ) → length acc ≡ rows * (m + 1) → Place (m + 1) rows p.level_count (i * (p.level_count * (m + 1))) lanes key acc
-  place_asks few i h lanes l acc s = record { few = few; count = l.count; sized = s; keyed = place_in i h }
+  pub place_asks : rows ≤ tile → {i : ℕ} → i < n → {lanes : List SignedDecomposer} → length lanes ≡ tile → {acc : List ℕ} → length acc ≡ rows * (m + 1)
+      → Place (m + 1) rows p.level_count (i * (p.level_count * (m + 1))) lanes key acc
+  place_asks few h c s = record { few = few; count = c; sized = s; keyed = place_in _ h }

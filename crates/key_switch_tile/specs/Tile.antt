@@ -22,13 +22,7 @@ lane lanes t = get_or lanes t (record { value = 0; carry = false; log_basis = 0;
 
 -- ---- one level: an entry of w words, and rows of w accumulators
 
-pub record Level (w rows : ℕ) (lanes : List SignedDecomposer) (entry acc : List ℕ) : Type 0 where
-  pub few : rows ≤ tile
-  pub count : length lanes ≡ tile
-  pub wide : length entry ≡ w
-  pub sized : length acc ≡ rows * w
-
--- and there is room for exact sums, where no accumulator grows by more than `grow`
+-- there is room for exact sums, where no accumulator grows by more than `grow`
 pub record LevelRoom (q half grow w rows : ℕ) (lanes : List SignedDecomposer) (entry acc : List ℕ) : Type 0 where
   pub entries : Below q entry
   pub digits : (t : ℕ) → t < rows → Near q half (step_of (lane lanes t)).digit
@@ -49,12 +43,6 @@ pub record Leveled (q grow w rows : ℕ) (entry : List ℕ) (lanes : List Signed
   pub moved : (t : ℕ) → t < rows → lane lanes' t ≡ (step_of (lane lanes t)).next
 
 -- ---- one place: L entries, from `start` on
-
-pub record Place (w rows L start : ℕ) (lanes : List SignedDecomposer) (key acc : List ℕ) : Type 0 where
-  pub few : rows ≤ tile
-  pub count : length lanes ≡ tile
-  pub sized : length acc ≡ rows * w
-  pub keyed : start + L * w ≤ length key
 
 pub record PlaceRoom (q half grow w rows L : ℕ) (lanes : List SignedDecomposer) (key acc : List ℕ) : Type 0 where
   pub keys : Below q key

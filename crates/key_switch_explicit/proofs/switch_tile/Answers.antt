@@ -5,4 +5,4 @@ use Rattle.key_switch_explicit.proofs.switch_tile.Goals as goal
 
 pub returns : goal.returns
 returns c =
-    reduced c.requires.1 (ap size_of c.requires.2) c.walk.ensures c.reduce_to.ensures
+    reduced c.args.tile.shaped (ap size_of c.requires.0) c.walk.ensures c.reduce_to.ensures

@@ -9,8 +9,8 @@ loop-u-init c = batching_start _ _ _ _ _ _ _ c.requires.1 (length-replicate {A =
 pub slice_bounds-switch_tile-end-in-loop-u : goal.slice_bounds-switch_tile-end-in-loop-u
 slice_bounds-switch_tile-end-in-loop-u c = (insides c.requires.0 c.div_ceil-u-end.ensures c.loop-u-test.true c.loop-u.invariant c.min-rows.ensures).0
 
-pub slice_bounds-switch_tile-end-in-loop-u-2 : goal.slice_bounds-switch_tile-end-in-loop-u-2
-slice_bounds-switch_tile-end-in-loop-u-2 c = (insides c.requires.0 c.div_ceil-u-end.ensures c.loop-u-test.true c.loop-u.invariant c.min-rows.ensures).1
+pub slice_bounds-tile-end : goal.slice_bounds-tile-end
+slice_bounds-tile-end c = (insides c.requires.0 c.div_ceil-u-end.ensures c.loop-u-test.true c.loop-u.invariant c.min-rows.ensures).1
 
 pub switch_tile-requires : goal.switch_tile-requires
 switch_tile-requires c = tile_asks c.requires.0 c.div_ceil-u-end.ensures c.loop-u-test.true c.loop-u.invariant c.min-rows.ensures _ c.loop-u.invariant.roomy

@@ -1,8 +1,0 @@
-use Rattle.std.proofs.Common.{◌+◌, ◌*◌, map}
-use Rattle.key_switch_tile.proofs.Places.{Sinking}
-use Rattle.key_switch_tile.proofs.place.Given as goal
-
-abbrev pub invariant-loop-j : goal.invariant-loop-j
-invariant-loop-j g l =
-    Sinking (g.K.Kernel.ring l.kernel) (g.K.Kernel.growth l.kernel) (l.fn.s.m + 1) l.rows l.fn.s.basis.level_count (l.i * (l.fn.s.basis.level_count * (l.fn.s.m + 1))) l.key l.initial.lanes
-    (map g.K.Kernel.number l.initial.acc) l.lanes (map g.K.Kernel.number l.acc) l.j

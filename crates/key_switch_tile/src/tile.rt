@@ -1,0 +1,118 @@
+// A tile: up to eight ciphertexts, and the key that they go through together.
+ghost use Rattle.std.specs.Prelude.{◌≡◌, ◌-◌, ◌<◌, ◌≤◌, eqb, length};
+ghost use Rattle.scheme.specs.Numbers.{pick, tabulate};
+ghost use Rattle.key_switch_tile.specs.Tile.{tile, Shaped};
+
+use crate::{Kernel, Shape, TILE};
+use gadget_digits::SignedDecomposer;
+
+// `rows` ciphertexts and a key of this shape, as a switch has judged them.
+#[derive(Clone, Copy)]
+pub struct Tile<'a> {
+    pub input: &'a [u32],
+    pub key: &'a [u32],
+    pub rows: usize,
+    pub shape: Shape,
+    ghost few: { rows ≤ tile },
+    ghost shaped: { Shaped shape.basis shape.n shape.m rows input.now key.now },
+}
+
+// (0, b)
+fn start_row(out: &mut [u32], body: u32)
+    requires { 0 < length out.old }
+    ensures { out.new ≡ tabulate (length out.old) (λ c. pick (eqb c (length out.old - 1)) body 0) }
+{
+    let last = out.len() - 1;
+    out.fill(0);
+    out[last] = body;
+}
+
+// Stays: the length of `out` and `acc` is required: a ghost field beside a `&mut` is not covered by the language.
+impl<'a> Tile<'a> {
+    ghost use Rattle.std.specs.Prelude.{◌+◌, ◌*◌, map};
+    ghost use Rattle.key_switch_tile.specs.Tile.{Lanes, begun, LevelRoom, Leveled, PlaceRoom, Placed};
+
+    // The lanes of mask place i: the decomposer of each row's word. None is kept from the place before.
+    pub fn lanes(self, i: usize) -> [SignedDecomposer; TILE]
+        requires { i < self.shape.n }
+        ensures { Lanes self.entry.shape.basis self.entry.shape.n self.entry.rows i self.entry.input.now result }
+    {
+        let none = SignedDecomposer {
+            value: 0,
+            carry: false,
+            log_basis: 0,
+            modulus_minus_basis: 0,
+        };
+        let mut lanes = [none; TILE];
+        for t in 0..self.rows {
+            let at = t * (self.shape.n + 1) + i;
+            lanes[t] = self.shape.basis.decomposer(self.input[at]);
+        }
+        lanes
+    }
+
+    // Each row becomes (0, b).
+    pub fn start(self, out: &mut [u32])
+        requires { length out.old ≡ self.rows * (self.shape.m + 1) }
+        ensures { out.new ≡ begun self.entry.shape.n self.entry.shape.m self.entry.rows self.entry.input.now }
+    {
+        let n = self.shape.n;
+        let width = self.shape.m + 1;
+        for t in 0..self.rows {
+            let from = t * width;
+            let to = from + width;
+            start_row(&mut out[from..to], self.input[t * (n + 1) + n]);
+        }
+    }
+
+    // One level of one place: each row loses its own digit times the entry, and its lane moves on.
+    fn level<K: Kernel>(
+        self,
+        kernel: &K,
+        acc: &mut [K::Word],
+        entry: &[u32],
+        lanes: &mut [SignedDecomposer; TILE],
+    )
+        requires { (length entry.now ≡ self.shape.m + 1) × (length acc.old ≡ self.rows * (self.shape.m + 1))
+            × LevelRoom (K.ring kernel.now) (K.near kernel.now) (K.growth kernel.now) (self.shape.m + 1) self.rows
+            lanes.old entry.now (map K.number acc.old) }
+        ensures { Leveled (K.ring kernel.now) (K.growth kernel.now) (self.entry.shape.m + 1) self.entry.rows entry.now
+            lanes.old (map K.number acc.old) lanes.new (map K.number acc.new) }
+    {
+        let width = self.shape.m + 1;
+        for t in 0..self.rows {
+            let step = lanes[t].step();
+            let at = t * width;
+            let end = at + width;
+            kernel.take_away(&mut acc[at..end], entry, step.digit);
+            lanes[t] = step.next;
+        }
+    }
+
+    // Mask place i: each row loses its L digits times the L entries of the place.
+    pub fn place<K: Kernel>(
+        self,
+        kernel: &K,
+        acc: &mut [K::Word],
+        i: usize,
+        mut lanes: [SignedDecomposer; TILE],
+    )
+        requires { (i < self.shape.n) × (length acc.old ≡ self.rows * (self.shape.m + 1))
+            × Lanes self.shape.basis self.shape.n self.rows i self.input.now lanes
+            × PlaceRoom (K.ring kernel.now) (K.near kernel.now) (K.growth kernel.now) (self.shape.m + 1) self.rows
+            self.shape.basis.level_count lanes self.key.now (map K.number acc.old) }
+        ensures { Placed (K.ring kernel.now) (K.growth kernel.now) (self.entry.shape.m + 1) self.entry.rows
+            self.entry.shape.basis.level_count
+            (i * (self.entry.shape.basis.level_count * (self.entry.shape.m + 1))) self.entry.key.now
+            lanes (map K.number acc.old) (map K.number acc.new) }
+    {
+        let levels = self.shape.basis.level_count;
+        let width = self.shape.m + 1;
+        let start = i * (levels * width);
+        for j in 0..levels {
+            let at = start + j * width;
+            let end = at + width;
+            self.level(kernel, acc, &self.key[at..end], &mut lanes);
+        }
+    }
+}
