@@ -14,7 +14,7 @@ use Rattle.scheme.specs.Numbers.{pick, residue, tabulate}
 use Rattle.scheme.specs.Lwe.{signed}
 use Rattle.scheme.specs.Switch.{Below}
 use Rattle.scheme.proofs.Residue.{residue_lt, cong_add, cong_of_eq, cong_trans, residue_cong}
-use Rattle.scheme.proofs.Lists.{length-tabulate, get_d_tabulate}
+use Rattle.scheme.proofs.Lists.{is-tabulate, length-tabulate, get_d_tabulate}
 use Rattle.scheme.proofs.InPlace.{length_zip, zip_at}
 use Rattle.scheme.proofs.Rows.{row_within, part_at, part_length}
 use Rattle.scheme.proofs.Lwe.{stands}
@@ -38,6 +38,9 @@ is_zip f xs ys zs e l h =
     ext_get_or 0 zs (zip_with f xs ys) (l ∙ sym (length_zip f xs ys e))
     (λ i k. h i (omega arith) ∙ sym (zip_at f xs ys i e (omega arith)))
 
+pub is_table : (f : ℕ → ℕ) (c : ℕ) (zs : List ℕ) → length zs ≡ c → ((i : ℕ) → i < c → get_or zs i 0 ≡ f i) → zs ≡ tabulate c f
+is_table f c zs e h = is-tabulate c f zs e h
+
 -- word k before any row
 module _ (q n k : ℕ) (f : ℕ → ℤ) (h : 0 < q) (error : ℕ) (e : error ≡ modulo q (f k)) where
   pub start_body : (p : ℕ) {r : ℕ} → k ≡ n → r ≡ modulo q (pos error +ℤ pos p) → r ≡ start_word q n f p k
@@ -51,14 +54,14 @@ module _ (q n k : ℕ) (f : ℕ → ℤ) (h : 0 < q) (error : ℕ) (e : error �
   start_mask p z =
       e ∙ modulo_plain q (f k) h ∙ ap (λ x. residue x q) (sym (ap (λ b. f k +ℤ pick b (pos p) (pos 0)) (ne_eqb k n z) ∙ +ℤ_idr (f k)))
 
-module _ (q n : ℕ) (key : List ℕ) (es rs : List ℤ) (room : ℕ) (ok : Public q n key rs room) (p : ℕ) where
+module _ (q n : ℕ) (key : List ℕ) (es rs : List ℤ) (room : ℕ) (positive : 0 < q) (ok : Public n key rs room) (p : ℕ) where
   -- before the first row
   pub public_start : (x : List ℕ) → x ≡ tabulate room (start_word q n (signed es) p) → Upto q n key (signed es) (pos p) (signed rs) 0 x
   unfolding start_word
   public_start x e =
-      upto_start q ok.positive n key (signed es) (pos p) (signed rs) x (ap length e ∙ length-tabulate room _ ∙ ok.fits)
-      (λ k a. cong_trans (cong_of_eq q (ap pos (word k a))) (stands ok.positive _))
-      (λ k a. rw (word k a) (residue_lt (signed es k +ℤ pick (eqb k n) (pos p) (pos 0)) q ok.positive))
+      upto_start q positive n key (signed es) (pos p) (signed rs) x (ap length e ∙ length-tabulate room _ ∙ ok.fits)
+      (λ k a. cong_trans (cong_of_eq q (ap pos (word k a))) (stands positive _))
+      (λ k a. rw (word k a) (residue_lt (signed es k +ℤ pick (eqb k n) (pos p) (pos 0)) q positive))
     where
       word : (k : ℕ) → k ≤ n → get_or x k 0 ≡ start_word q n (signed es) p k
       word k a = ap (λ l. get_or l k 0) e ∙ get_d_tabulate room (start_word q n (signed es) p) k (omega (arith, ok.fits))
@@ -77,12 +80,12 @@ module _ (q n : ℕ) (key : List ℕ) (es rs : List ℤ) (room : ℕ) (ok : Publ
     public_same = u.sized ∙ sym row-size
 
     pub public_below : Below q x
-    public_below k a = rw (u.word k (omega (arith, u.sized))) (residue_lt (up_to n key (signed es) (pos p) (signed rs) i k) q ok.positive)
+    public_below k a = rw (u.word k (omega (arith, u.sized))) (residue_lt (up_to n key (signed es) (pos p) (signed rs) i k) q positive)
 
     -- one row more
     pub public_next : (y : List ℕ) → y ≡ zip_with (plus_times q (get_or rs i (pos 0))) x (take (i * (n + 1) + (n + 1) - i * (n + 1)) (drop (i * (n + 1)) key))
         → Upto q n key (signed es) (pos p) (signed rs) (i + 1) y
     public_next y e =
-        upto_next q ok.positive n key (signed es) (pos p) (signed rs) i x y u (ap length e ∙ length_zip _ x _ public_same ∙ u.sized)
+        upto_next q positive n key (signed es) (pos p) (signed rs) i x y u (ap length e ∙ length_zip _ x _ public_same ∙ u.sized)
         (λ k a. ap (λ l. get_or l k 0) e ∙ zip_at (plus_times q (get_or rs i (pos 0))) x _ k public_same (omega (arith, u.sized))
         ∙ ap (λ w. plus_times q (get_or rs i (pos 0)) (get_or x k 0) w) (ap (λ m. get_or (take m (drop (i * (n + 1)) key)) k 0) size ∙ part_at (n + 1) key i k (omega arith)))

@@ -3,8 +3,7 @@ use Rattle.std.specs.Prelude.{List, ◌≡◌, ℕ, ◌+◌, ◌*◌, ◌<◌, e
 use Rattle.scheme.specs.Numbers.{pick, residue}
 
 -- of n coefficients: a key of n rows of n + 1 words, and room for one
-pub record Public (q n : ℕ) (key : List ℕ) (rs : List ℤ) (room : ℕ) : Type 0 where
-  pub positive : 0 < q
+pub record Public (n : ℕ) (key : List ℕ) (rs : List ℤ) (room : ℕ) : Type 0 where
   pub rows : length key ≡ n * (n + 1)
   pub fits : room ≡ n + 1
   pub small : (i : ℕ) → i < n → nat_abs (get_or rs i (pos 0)) < 2

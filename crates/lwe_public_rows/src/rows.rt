@@ -2,78 +2,76 @@
 ghost use Rattle.std.specs.Prelude.{◌≡◌, ◌+◌, ◌*◌, ◌<◌, pos, nat_abs, length, get_or};
 ghost use mathlib.Core.List.{zip_with};
 ghost use Rattle.scheme.specs.Numbers.{tabulate};
-ghost use Rattle.scheme.specs.Lwe.{signed as errorsOf, secret_of, public_key, public_encrypted};
+ghost use Rattle.scheme.specs.Lwe.{signed as errorsOf, secret_of, key_length, public_key, public_encrypted};
 ghost use Rattle.scheme.specs.Switch.{Below};
 ghost use Rattle.primus_reduce.specs.Ring.{size_of};
 ghost use Rattle.lwe_secret_key.specs.Key.{key_of};
 ghost use Rattle.lwe_public_rows.specs.Public.{plus_times, start_word, Public};
 
-use lwe_secret_key::{LweSecretKeyRef, error_residue};
-use primus_reduce::Modulus;
+use lwe_secret_key::LweSecretKeyRef;
+use primus_reduce::{Factor, Ring};
 use std::cmp::Ordering;
 
-// n encryptions of 0, row i with mask i and error i.
+// An encryption of 0 for each of n errors, row i with mask i and error i.
 pub fn write_zeros(
     out: &mut [u32],
     key: LweSecretKeyRef,
     masks: &[u32],
-    n: usize,
     errors: &[i32],
-    modulus: Modulus,
+    ring: Ring,
 )
-    requires { (0 < size_of modulus) × (length masks.now ≡ n * n) × (length out.old ≡ n * (n + 1)) }
-    ensures { out.new ≡ public_key (size_of modulus) n masks.now
+    requires { let n = length errors.now in
+        (key_length (key_of key) ≡ n) × (length masks.now ≡ n * n) × (length out.old ≡ n * (n + 1)) }
+    ensures { out.new ≡ public_key (size_of ring.modulus) (length errors.now) masks.now
         (secret_of (key_of key.entry)) (errorsOf errors.now) }
 {
-    for i in 0..n {
-        key.encrypt_row(out, masks, n, errors, i, 0, modulus);
+    for i in 0..errors.len() {
+        key.encrypt_row(out, masks, errors, i, 0, ring);
     }
 }
 
 // Word k before any row: error k, and in the body the plaintext too.
 #[tactic(auto, using(crate::proofs::Laws::start_body, crate::proofs::Laws::start_mask))]
-fn start_word(errors: &[i32], plaintext: u32, k: usize, n: usize, modulus: Modulus) -> u32
-    requires { 0 < size_of modulus }
-    ensures { result ≡ start_word (size_of modulus) n (errorsOf errors.now) plaintext k }
+fn start_word(errors: &[i32], plaintext: u32, k: usize, n: usize, ring: Ring) -> u32
+    ensures { result ≡ start_word (size_of ring.modulus) n (errorsOf errors.now) plaintext k }
 {
-    let error = error_residue(errors, k, modulus);
+    let error = Factor::residue_at(errors, k, ring.modulus);
     if k == n {
-        return modulus.reduce_add(error, plaintext);
+        return ring.modulus.reduce_add(error, plaintext);
     }
     error
 }
 
-fn start(out: &mut [u32], errors: &[i32], plaintext: u32, n: usize, modulus: Modulus)
-    requires { 0 < size_of modulus }
+#[tactic(auto, using(crate::proofs::Laws::is_table))]
+fn start(out: &mut [u32], errors: &[i32], plaintext: u32, n: usize, ring: Ring)
     ensures { out.new ≡ tabulate (length out.old)
-        (start_word (size_of modulus) n (errorsOf errors.now) plaintext) }
+        (start_word (size_of ring.modulus) n (errorsOf errors.now) plaintext) }
 {
     for (k, x) in out.iter_mut().enumerate() {
-        *x = start_word(errors, plaintext, k, n, modulus);
+        *x = start_word(errors, plaintext, k, n, ring);
     }
 }
 
 // x + r × y for a coefficient r, one of −1, 0, 1.
 #[tactic(auto, using(crate::proofs::Laws::same_word))]
-fn add_word(x: u32, y: u32, r: i32, modulus: Modulus) -> u32
-    requires { (0 < size_of modulus) × (nat_abs r < 2) × (x < size_of modulus) }
-    ensures { result ≡ plus_times (size_of modulus) r x y }
+fn add_word(x: u32, y: u32, r: i32, ring: Ring) -> u32
+    requires { (nat_abs r < 2) × (x < size_of ring.modulus) }
+    ensures { result ≡ plus_times (size_of ring.modulus) r x y }
 {
     match r.cmp(&0) {
-        Ordering::Less => modulus.reduce_sub(x, y),
+        Ordering::Less => ring.modulus.reduce_sub(x, y),
         Ordering::Equal => x,
-        Ordering::Greater => modulus.reduce_add(x, y),
+        Ordering::Greater => ring.modulus.reduce_add(x, y),
     }
 }
 
 // out + r × row: the row is added, left out or taken away.
-fn add_multiple(out: &mut [u32], row: &[u32], r: i32, modulus: Modulus)
-    requires { (0 < size_of modulus) × (length out.old ≡ length row.now)
-        × (nat_abs r < 2) × Below (size_of modulus) out.old }
-    ensures { out.new ≡ zip_with (plus_times (size_of modulus) r) out.old row.now }
+fn add_multiple(out: &mut [u32], row: &[u32], r: i32, ring: Ring)
+    requires { (length out.old ≡ length row.now) × (nat_abs r < 2) × Below (size_of ring.modulus) out.old }
+    ensures { out.new ≡ zip_with (plus_times (size_of ring.modulus) r) out.old row.now }
 {
     for (k, x) in out.iter_mut().enumerate() {
-        *x = add_word(*x, row[k], r, modulus);
+        *x = add_word(*x, row[k], r, ring);
     }
 }
 
@@ -84,17 +82,16 @@ pub fn write_public(
     errors: &[i32],
     coefficients: &[i32],
     plaintext: u32,
-    modulus: Modulus,
+    ring: Ring,
 )
-    requires { Public (size_of modulus) (length coefficients.now) key.now coefficients.now
-        (length out.old) }
-    ensures { out.new ≡ public_encrypted (size_of modulus) (length coefficients.now)
+    requires { Public (length coefficients.now) key.now coefficients.now (length out.old) }
+    ensures { out.new ≡ public_encrypted (size_of ring.modulus) (length coefficients.now)
         key.now (errorsOf errors.now) (pos plaintext) (errorsOf coefficients.now) }
 {
     let n = coefficients.len();
-    start(out, errors, plaintext, n, modulus);
+    start(out, errors, plaintext, n, ring);
     for (i, r) in coefficients.iter().enumerate() {
         let at = i * (n + 1);
-        add_multiple(out, &key[at..at + (n + 1)], *r, modulus);
+        add_multiple(out, &key[at..at + (n + 1)], *r, ring);
     }
 }

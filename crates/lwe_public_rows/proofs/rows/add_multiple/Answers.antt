@@ -11,4 +11,4 @@ use Rattle.lwe_public_rows.proofs.rows.add_multiple.Goals as goal
 pub returns : goal.returns
 returns c =
     let fits : SFits w32 c.args.r = search rules in
-    is_zip (plus_times (size_of c.args.modulus) c.args.r) _ _ _ c.requires.1 c.loop-k.auto.out (λ j h. simp to_z-of_z at (c.loop-k.invariant.0 j (omega arith)))
+    is_zip (plus_times (size_of c.args.ring.modulus) c.args.r) _ _ _ c.requires.0 c.loop-k.auto.out (λ j h. simp to_z-of_z at (c.loop-k.invariant.0 j (omega arith)))

@@ -5,5 +5,5 @@ use Rattle.lwe_public_rows.proofs.rows.add_multiple.Given as goal
 
 abbrev pub invariant-loop-k : goal.invariant-loop-k
 invariant-loop-k l =
-    ((j : ℕ) → j < l.k → get_or l.out j 0 ≡ plus_times (size_of l.modulus) l.r (get_or l.initial.out j 0) (get_or l.row j 0))
+    ((j : ℕ) → j < l.k → get_or l.out j 0 ≡ plus_times (size_of l.ring.modulus) l.r (get_or l.initial.out j 0) (get_or l.row j 0))
     × ((j : ℕ) → l.k ≤ j → get_or l.out j 0 ≡ get_or l.initial.out j 0)

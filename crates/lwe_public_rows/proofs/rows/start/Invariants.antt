@@ -5,4 +5,4 @@ use Rattle.lwe_public_rows.specs.Public.{start_word}
 use Rattle.lwe_public_rows.proofs.rows.start.Given as goal
 
 abbrev pub invariant-loop-k : goal.invariant-loop-k
-invariant-loop-k l = (j : ℕ) → j < l.k → get_or l.out j 0 ≡ start_word (size_of l.modulus) l.n (signed l.errors) l.plaintext j
+invariant-loop-k l = (j : ℕ) → j < l.k → get_or l.out j 0 ≡ start_word (size_of l.ring.modulus) l.n (signed l.errors) l.plaintext j

@@ -5,4 +5,4 @@ use Rattle.primus_reduce.specs.Ring.{size_of}
 use Rattle.lwe_public_rows.proofs.rows.write_public.Given as goal
 
 abbrev pub invariant-loop-i : goal.invariant-loop-i
-invariant-loop-i l = Upto (size_of l.modulus) (length l.coefficients) l.key (signed l.errors) (pos l.plaintext) (signed l.coefficients) l.i l.out
+invariant-loop-i l = Upto (size_of l.ring.modulus) (length l.coefficients) l.key (signed l.errors) (pos l.plaintext) (signed l.coefficients) l.i l.out
