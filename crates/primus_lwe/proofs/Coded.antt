@@ -1,4 +1,4 @@
--- Messages: the codec, whose checks have passed, and what the checks of a call leave.
+-- Messages: the codec, whose checks have passed.
 -- Assumes nothing.
 use mathlib.Core.Path.{◌≡◌, ap, ◌∙◌}
 use mathlib.Core.Bool.{false}
@@ -8,21 +8,17 @@ use lib.IntN.{ℤ, pos, ◌-ℤ◌}
 use lib.ListN.{length, get_or}
 use borrow.Author.Tests.{lt-leb}
 use Rattle.scheme.specs.Codec.{decode}
-use Rattle.scheme.specs.Lwe.{Key, key_length, inner, phase_of}
-use Rattle.scheme.specs.Checks.{refusal, message_fails, messages_fail}
+use Rattle.scheme.specs.Lwe.{inner, phase_of}
+use Rattle.scheme.specs.Checks.{message_fails, messages_fail}
 use Rattle.scheme.proofs.Residue.{residue_lt}
 use Rattle.scheme.proofs.Checks.{words_ok}
-use Rattle.scheme.proofs.Order.{passed}
 use Rattle.primus_reduce.specs.Ring.{size_of}
 use Rattle.primus_reduce.specs.declared.modulus.Modulus.{Modulus}
 use Rattle.primus_encoding.specs.Answers.{encode_answer, decode_answer, or_zero}
 use Rattle.primus_encoding.specs.declared.PlaintextEmbedding.{PlaintextEmbedding}
 use Rattle.primus_encoding.proofs.Laws.{encode_passed, decode_passed}
 use Rattle.lwe_parameters.specs.declared.parameter.LweParameters.{LweParameters}
-use Rattle.lwe_parameters.specs.declared.parameter.LweDecryptionParameters.{LweDecryptionParameters}
 use Rattle.primus_lwe.specs.Answers.{Codable, encoded, encodings}
-use Rattle.lwe_refusals.specs.Rows.{message_rows, decrypt_rows}
-use Rattle.primus_lwe.proofs.Laws.{Encryptable, lent_ok, Phasable, phase_ok}
 
 -- what the codec answers
 module _ (P : LweParameters) (ok : Codable P.plaintext_modulus P.modulus) where
@@ -41,31 +37,3 @@ decoded-is t m ok p h f = f ∙ decode_passed t m p ok.modulus_ok ok.plaintext_o
 pub phase-below : (q n : ℕ) (x : List ℕ) (s : ℕ → ℤ) (p : ℕ) → 0 < q → p ≡ phase_of q n x s → p < q
 unfolding phase_of
 phase-below q n x s p h e = rw e (residue_lt (pos (get_or x n 0) -ℤ inner n x s) q h)
-
--- ---- what the checks leave
-
-pub record Messageable (P : LweParameters) (mask room x : ℕ) : Type 0 where
-  pub plain : Encryptable P.modulus P.dimension.0 mask room
-  pub codec : Codable P.plaintext_modulus P.modulus
-  pub message : message_fails P.plaintext_modulus x ≡ false
-
-pub messageable : (P : LweParameters) (key : Key) (a : List ℕ) (es : List ℤ) (x room : ℕ) → refusal (message_rows P key a es x room) ≡ 0 → Messageable P (length a) room x
-messageable P key a es x room e =
-    let no = passed (message_rows P key a es x room) e in
-    record {
-      plain = lent_ok P.modulus P.dimension.0 (length a) (length es) room (no 2 tt) (no 11 tt) (no 12 tt);
-      codec = record { modulus_ok = no 2 tt; plaintext_ok = no 7 tt; small_ok = no 8 tt };
-      message = no 16 tt;
-    }
-
-pub record Decryptable (P : LweDecryptionParameters) (len words : ℕ) : Type 0 where
-  pub phases : Phasable P.modulus P.dimension.0 len words
-  pub codec : Codable P.plaintext_modulus P.modulus
-
-pub decryptable : (P : LweDecryptionParameters) (key : Key) (x : List ℕ) → refusal (decrypt_rows P key x) ≡ 0 → Decryptable P (key_length key) (length x)
-decryptable P key x e =
-    let no = passed (decrypt_rows P key x) e in
-    record {
-      phases = phase_ok P.modulus P.dimension.0 (key_length key) (length x) (no 2 tt) (no 9 tt) (no 10 tt);
-      codec = record { modulus_ok = no 2 tt; plaintext_ok = no 7 tt; small_ok = no 8 tt };
-    }

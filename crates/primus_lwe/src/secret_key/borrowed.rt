@@ -7,6 +7,7 @@ use lwe_parameters::{LweEncryptionParameters, LwePhaseParameters};
 use lwe_refusals::{decrypt_refusal, encrypt_refusal};
 use lwe_secret_key::LweSecretKeyRef;
 use lwe_tag::LweTag;
+use primus_reduce::Ring;
 
 // b = ⟨a, s⟩ + e + p modulo q; out holds (a, b), with tally E. Refuses by 2, 6, 9, 11, 12, 13, 14, 15.
 pub fn encrypt_encoded_to(
@@ -20,7 +21,10 @@ pub fn encrypt_encoded_to(
     ensures { Encrypts params (key_of key.entry) mask.now errors.now plaintext out.old result out.new }
 {
     encrypt_refusal(params, key, mask, errors, plaintext, out.len())?;
-    key.encrypt_to(out, mask, errors, 0, plaintext, params.modulus);
+    let ring = Ring {
+        modulus: params.modulus,
+    };
+    key.encrypt_to(out, mask, errors, 0, plaintext, ring);
     Ok(LweTag::with_tally(u64::from(params.error_limit)))
 }
 
@@ -33,5 +37,8 @@ pub fn decrypt_phase(
     ensures { TakesPhase params (key_of key.entry) ciphertext.now result }
 {
     decrypt_refusal(params, None, key, ciphertext)?;
-    Ok(key.phase(ciphertext, params.dimension.get(), params.modulus))
+    let ring = Ring {
+        modulus: params.modulus,
+    };
+    Ok(key.phase(ciphertext, ring))
 }

@@ -8,6 +8,7 @@ use lwe_refusals::{decrypt_refusal, message_refusal};
 use lwe_secret_key::LweSecretKeyRef;
 use lwe_tag::LweTag;
 use primus_encoding::{PlaintextEmbedding, decode_or_zero, encode_or_zero};
+use primus_reduce::Ring;
 
 // An encryption of encode(m), with tally E. Refuses by 2, 6, 7, 8, 9, 11, 12, 13, 14, 15, 16.
 pub fn encrypt_message_to(
@@ -24,7 +25,7 @@ pub fn encrypt_message_to(
     message_refusal(params, key, mask, errors, message, out.len())?;
     let modulus = params.modulus;
     let plaintext = encode_or_zero(params.plaintext_modulus, modulus, message, embedding);
-    key.encrypt_to(out, mask, errors, 0, plaintext, modulus);
+    key.encrypt_to(out, mask, errors, 0, plaintext, Ring { modulus });
     Ok(LweTag::with_tally(u64::from(params.error_limit)))
 }
 
@@ -39,6 +40,6 @@ pub fn decrypt_message(
     let modulus = params.modulus;
     let t = params.plaintext_modulus;
     decrypt_refusal(params.into(), Some(t), key, ciphertext)?;
-    let p = key.phase(ciphertext, params.dimension.get(), modulus);
+    let p = key.phase(ciphertext, Ring { modulus });
     Ok(decode_or_zero(t, modulus, p))
 }

@@ -1,20 +1,23 @@
 use Rattle.std.proofs.Common.{sym, length}
-use Rattle.std.proofs.lemmas.Result.{err_from_is_err_and}
+use Rattle.scheme.proofs.Order.{passed}
+use Rattle.check_order.proofs.Answers.{handed_on}
 use Rattle.lwe_tag.proofs.Writes.{refused, done}
-use Rattle.lwe_secret_key.specs.Key.{key_of}
-use Rattle.primus_lwe.proofs.Laws.{encryptable}
+use Rattle.primus_lwe.proofs.Laws.{positive, mask_ok, room_ok}
 use Rattle.primus_lwe.proofs.secret_key.borrowed.encrypt_encoded_to.Goals as goal
 
 pub returns-in_err-encrypt_refusal : goal.returns-in_err-encrypt_refusal
-returns-in_err-encrypt_refusal c =
-    let p = err_from_is_err_and c.from_residual.result c.from_residual.ensures.1 in
-    rw (p.1, p.2) (record { writes = refused c.in_err-encrypt_refusal.ensures })
+returns-in_err-encrypt_refusal c = rw (handed_on _ c.from_residual.ensures.1) (record { writes = refused c.in_err-encrypt_refusal.ensures })
+
+pub invariant_of-ring : goal.invariant_of-ring
+invariant_of-ring c = record { positive = positive c.args.params.modulus (passed _ (sym c.in_ok-encrypt_refusal.ensures) 2 tt) }
 
 pub encrypt_to-requires : goal.encrypt_to-requires
-encrypt_to-requires c =
-    let ready = encryptable c.args.params (key_of c.args.key) c.args.mask.now c.args.errors.now c.args.plaintext (length c.args.out.now) (sym c.in_ok-encrypt_refusal.ensures) in (ready.positive, ready.fits)
+encrypt_to-requires c = let no = passed _ (sym c.in_ok-encrypt_refusal.ensures) in room_ok _ _ _ _ (no 11 tt) (no 12 tt)
 
 pub returns : goal.returns
 returns c =
-    let ready = encryptable c.args.params (key_of c.args.key) c.args.mask.now c.args.errors.now c.args.plaintext (length c.args.out.now) (sym c.in_ok-encrypt_refusal.ensures) in
-    record { writes = done c.in_ok-encrypt_refusal.ensures (rw c.from.ensures at c.with_tally.ensures) (rw ready.each at c.encrypt_to.ensures) }
+    record {
+      writes =
+          done c.in_ok-encrypt_refusal.ensures (rw c.from.ensures at c.with_tally.ensures)
+          (rw (mask_ok (length c.args.mask.now) _ _ (passed _ (sym c.in_ok-encrypt_refusal.ensures) 12 tt)) at c.encrypt_to.ensures);
+    }

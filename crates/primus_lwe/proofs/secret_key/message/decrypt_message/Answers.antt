@@ -1,30 +1,28 @@
 use Rattle.std.proofs.Common.{sym, ap, ◌∙◌}
-use Rattle.std.proofs.lemmas.Result.{err_from_is_err_and}
 use Rattle.scheme.specs.Codec.{decode}
-use Rattle.check_order.proofs.Answers.{refused, served}
+use Rattle.scheme.proofs.Order.{passed}
+use Rattle.check_order.proofs.Answers.{handed_on, refused, served}
 use Rattle.primus_reduce.specs.Ring.{size_of}
-use Rattle.lwe_secret_key.specs.Key.{key_of}
-use Rattle.primus_lwe.proofs.Coded.{decryptable, decoded-is, phase-below}
+use Rattle.primus_lwe.proofs.Laws.{positive, body_at}
+use Rattle.primus_lwe.proofs.Coded.{decoded-is, phase-below}
 use Rattle.primus_lwe.proofs.secret_key.message.decrypt_message.Goals as goal
 
 pub returns-in_err-decrypt_refusal : goal.returns-in_err-decrypt_refusal
 returns-in_err-decrypt_refusal c =
-    let p = err_from_is_err_and c.from_residual.result c.from_residual.ensures.1 in
-    rw (p.1, p.2) (record { is = refused _ _ _ (rw c.into.ensures at c.in_err-decrypt_refusal.ensures) })
+    rw (handed_on _ c.from_residual.ensures.1) (record { is = refused _ _ _ (rw c.into.ensures at c.in_err-decrypt_refusal.ensures) })
 
-pub phase-p-requires : goal.phase-p-requires
-phase-p-requires c =
-    let r = decryptable c.args.params (key_of c.args.key) c.args.ciphertext.now (sym (rw c.into.ensures at c.in_ok-decrypt_refusal.ensures)) in
-    rw c.get.ensures (r.phases.positive, r.phases.key, r.phases.whole)
+pub invariant_of-phase : goal.invariant_of-phase
+invariant_of-phase c = record { positive = positive c.args.params.modulus (passed _ (sym (rw c.into.ensures at c.in_ok-decrypt_refusal.ensures)) 2 tt) }
 
 pub returns : goal.returns
 returns c =
     let accepted = rw c.into.ensures at c.in_ok-decrypt_refusal.ensures in
-    let r = decryptable c.args.params (key_of c.args.key) c.args.ciphertext.now (sym accepted) in
-    let phase = rw c.get.ensures at c.phase-p.ensures in
+    let no = passed _ (sym accepted) in
+    let phase = rw (body_at _ _ (no 10 tt)) at c.phase-p.ensures in
     record {
       is =
           served _ _ _ accepted
-          (decoded-is c.args.params.plaintext_modulus c.args.params.modulus r.codec _ (phase-below _ _ _ _ _ r.phases.positive phase) c.decode_or_zero.ensures
+          (decoded-is c.args.params.plaintext_modulus c.args.params.modulus (record { modulus_ok = no 2 tt; plaintext_ok = no 7 tt; small_ok = no 8 tt }) _
+          (phase-below _ _ _ _ _ (positive c.args.params.modulus (no 2 tt)) phase) c.decode_or_zero.ensures
           ∙ ap (decode (size_of c.args.params.modulus) c.args.params.plaintext_modulus) phase);
     }

@@ -1,21 +1,23 @@
 use Rattle.std.proofs.Common.{sym, length}
-use Rattle.std.proofs.lemmas.Result.{err_from_is_err_and}
+use Rattle.scheme.proofs.Order.{passed}
+use Rattle.check_order.proofs.Answers.{handed_on}
 use Rattle.lwe_tag.proofs.Writes.{refused, done}
-use Rattle.lwe_secret_key.specs.Key.{key_of}
-use Rattle.primus_lwe.proofs.Coded.{messageable, encoded-is}
+use Rattle.primus_lwe.proofs.Laws.{positive, mask_ok, room_ok}
+use Rattle.primus_lwe.proofs.Coded.{encoded-is}
 use Rattle.primus_lwe.proofs.secret_key.message.encrypt_message_to.Goals as goal
 
 pub returns-in_err-message_refusal : goal.returns-in_err-message_refusal
-returns-in_err-message_refusal c =
-    let p = err_from_is_err_and c.from_residual.result c.from_residual.ensures.1 in
-    rw (p.1, p.2) (record { writes = refused c.in_err-message_refusal.ensures })
+returns-in_err-message_refusal c = rw (handed_on _ c.from_residual.ensures.1) (record { writes = refused c.in_err-message_refusal.ensures })
+
+pub invariant_of-encrypt_to : goal.invariant_of-encrypt_to
+invariant_of-encrypt_to c = record { positive = positive c.args.params.modulus (passed _ (sym c.in_ok-message_refusal.ensures) 2 tt) }
 
 pub encrypt_to-requires : goal.encrypt_to-requires
-encrypt_to-requires c =
-    let r = messageable c.args.params (key_of c.args.key) c.args.mask.now c.args.errors.now c.args.message (length c.args.out.now) (sym c.in_ok-message_refusal.ensures) in (r.plain.positive, r.plain.fits)
+encrypt_to-requires c = let no = passed _ (sym c.in_ok-message_refusal.ensures) in room_ok _ _ _ _ (no 11 tt) (no 12 tt)
 
 pub returns : goal.returns
 returns c =
-    let r = messageable c.args.params (key_of c.args.key) c.args.mask.now c.args.errors.now c.args.message (length c.args.out.now) (sym c.in_ok-message_refusal.ensures) in
-    let encoded = encoded-is c.args.params r.codec c.args.embedding c.args.message r.message c.encode_or_zero-plaintext.ensures in
-    record { writes = done c.in_ok-message_refusal.ensures (rw c.from.ensures at c.with_tally.ensures) (rw (r.plain.each, encoded) at c.encrypt_to.ensures) }
+    let no = passed _ (sym c.in_ok-message_refusal.ensures) in
+    let plain =
+        encoded-is c.args.params (record { modulus_ok = no 2 tt; plaintext_ok = no 7 tt; small_ok = no 8 tt }) c.args.embedding c.args.message (no 16 tt) c.encode_or_zero-plaintext.ensures in
+    record { writes = done c.in_ok-message_refusal.ensures (rw c.from.ensures at c.with_tally.ensures) (rw (mask_ok (length c.args.mask.now) _ _ (no 12 tt), plain) at c.encrypt_to.ensures) }
