@@ -14,7 +14,7 @@ use lwe_tag::LweTag;
 use primus_encoding::{PlaintextEmbedding, encode_or_zero};
 use primus_lattice::LweDimension;
 use primus_lwe::{LweEncryptionParameters, LweParameters};
-use primus_reduce::Modulus;
+use primus_reduce::{Modulus, Ring};
 
 // Its words are lent: n rows of n + 1.
 #[derive(Clone, Copy)]
@@ -140,8 +140,10 @@ impl LwePublicKey {
             errors.now out.old (code_of result) out.new }
     {
         generate_refusal(params, secret, masks, errors, out.len())?;
-        let n = params.dimension.get();
-        lwe_public_rows::write_zeros(out, secret, masks, n, errors, params.modulus);
+        let ring = Ring {
+            modulus: params.modulus,
+        };
+        lwe_public_rows::write_zeros(out, secret, masks, errors, ring);
         Ok(())
     }
 
@@ -158,8 +160,10 @@ impl LwePublicKey {
             plaintext out.old result out.new }
     {
         public_refusal(params, key, errors, coefficients, plaintext, out.len())?;
-        let modulus = params.modulus;
-        lwe_public_rows::write_public(out, key, errors, coefficients, plaintext, modulus);
+        let ring = Ring {
+            modulus: params.modulus,
+        };
+        lwe_public_rows::write_public(out, key, errors, coefficients, plaintext, ring);
         Ok(LweTag::none())
     }
 
@@ -179,7 +183,8 @@ impl LwePublicKey {
         public_message_refusal(params, key, errors, coefficients, message, out.len())?;
         let modulus = params.modulus;
         let plaintext = encode_or_zero(params.plaintext_modulus, modulus, message, embedding);
-        lwe_public_rows::write_public(out, key, errors, coefficients, plaintext, modulus);
+        let ring = Ring { modulus };
+        lwe_public_rows::write_public(out, key, errors, coefficients, plaintext, ring);
         Ok(LweTag::none())
     }
 }

@@ -1,16 +1,9 @@
-use Rattle.std.proofs.Common.{rules, arith, ◌≡◌}
-use Rattle.std.proofs.lemmas.Grind.{common_steps}
-use Rattle.scheme.specs.Checks.{refusal}
-use Rattle.check_order.specs.Answer.{number_of}
-use Rattle.check_order.proofs.Answers.{first_size, first_value}
-use Rattle.lwe_secret_key.specs.Key.{key_of}
-use Rattle.primus_lwe_public_key.specs.Answers.{generate_rows}
+use Rattle.std.proofs.Common.{rules}
+use Rattle.check_order.proofs.Answers.{handed_on, first_size, first_value}
 use Rattle.primus_lwe_public_key.proofs.public_key.generate_refusal.Goals as goal
 
 pub returns-in_err-judge : goal.returns-in_err-judge
-returns-in_err-judge c =
-    let told : number_of c.in_err-judge.field-0.0 ≡ refusal (generate_rows c.args.params (key_of c.args.secret) c.args.masks.now c.args.errors.now c.args.room) = first_size _ _ _ c.in_err-judge.ensures (search rules) in
-    grind (arith, common_steps)
+returns-in_err-judge c = rw (handed_on _ c.from_residual.ensures.1) (first_size _ _ _ c.in_err-judge.ensures (search rules))
 
 pub returns : goal.returns
-returns c = first_value (generate_rows c.args.params (key_of c.args.secret) c.args.masks.now c.args.errors.now c.args.room) _ _ _ c.in_ok-judge.ensures (search rules) c.judge-2.ensures (search rules)
+returns c = first_value _ _ _ _ c.in_ok-judge.ensures (search rules) c.judge-2.ensures (search rules)

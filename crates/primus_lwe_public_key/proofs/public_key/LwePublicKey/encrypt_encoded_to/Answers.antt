@@ -1,26 +1,23 @@
-use Rattle.std.proofs.Common.{sym, ap, ◌∙◌, pos, length}
-use Rattle.std.proofs.lemmas.Result.{err_from_is_err_and}
-use Rattle.scheme.specs.Lwe.{signed, public_encrypted}
+use Rattle.std.proofs.Common.{sym, length}
+use Rattle.scheme.proofs.Order.{passed}
+use Rattle.check_order.proofs.Answers.{handed_on}
 use Rattle.lwe_tag.proofs.Writes.{refused, done}
-use Rattle.primus_reduce.specs.Ring.{size_of}
-use Rattle.primus_lwe_public_key.proofs.Laws.{publishable}
+use Rattle.primus_lwe.proofs.Laws.{positive}
+use Rattle.primus_lwe_public_key.proofs.Laws.{lent_ok, public_ok}
 use Rattle.primus_lwe_public_key.proofs.public_key.LwePublicKey.encrypt_encoded_to.Goals as goal
 
 pub returns-in_err-public_refusal : goal.returns-in_err-public_refusal
-returns-in_err-public_refusal c =
-    let p = err_from_is_err_and c.from_residual.result c.from_residual.ensures.1 in
-    rw (p.1, p.2) (record { writes = refused c.in_err-public_refusal.ensures })
+returns-in_err-public_refusal c = rw (handed_on _ c.from_residual.ensures.1) (record { writes = refused c.in_err-public_refusal.ensures })
+
+pub invariant_of-ring : goal.invariant_of-ring
+invariant_of-ring c = record { positive = positive c.args.params.modulus (passed _ (sym c.in_ok-public_refusal.ensures) 2 tt) }
 
 pub write_public-requires : goal.write_public-requires
 write_public-requires c =
-    let ready = publishable c.args.params c.args.key.now c.args.errors.now c.args.coefficients.now c.args.plaintext (length c.args.out.now) (sym c.in_ok-public_refusal.ensures) in ready.able
+    let no = passed _ (sym c.in_ok-public_refusal.ensures) in
+    public_ok _ c.args.errors.now c.args.coefficients.now _ _ c.args.params.error_limit (no 9 tt) (no 11 tt) (no 12 tt) (no 15 tt)
 
 pub returns : goal.returns
 returns c =
-    let ready = publishable c.args.params c.args.key.now c.args.errors.now c.args.coefficients.now c.args.plaintext (length c.args.out.now) (sym c.in_ok-public_refusal.ensures) in
-    record {
-      writes =
-          done c.in_ok-public_refusal.ensures c.none.ensures
-          (c.write_public.ensures
-          ∙ ap (λ n. public_encrypted (size_of c.args.params.modulus) n c.args.key.now (signed c.args.errors.now) (pos c.args.plaintext) (signed c.args.coefficients.now)) ready.each);
-    }
+    let coefficients = lent_ok (length c.args.coefficients.now) _ _ _ (passed _ (sym c.in_ok-public_refusal.ensures) 12 tt) in
+    record { writes = done c.in_ok-public_refusal.ensures c.none.ensures (rw coefficients at c.write_public.ensures) }

@@ -1,27 +1,26 @@
-use Rattle.std.proofs.Common.{sym, ap₂, ◌∙◌, ℕ, pos, length}
-use Rattle.std.proofs.lemmas.Result.{err_from_is_err_and}
-use Rattle.scheme.specs.Lwe.{signed, public_encrypted}
+use Rattle.std.proofs.Common.{sym, length}
+use Rattle.scheme.proofs.Order.{passed}
+use Rattle.check_order.proofs.Answers.{handed_on}
 use Rattle.lwe_tag.proofs.Writes.{refused, done}
-use Rattle.primus_reduce.specs.Ring.{size_of}
-use Rattle.primus_lwe_public_key.proofs.Laws.{publishable_message}
+use Rattle.primus_lwe.proofs.Laws.{positive}
+use Rattle.primus_lwe.proofs.Coded.{encoded-is}
+use Rattle.primus_lwe_public_key.proofs.Laws.{lent_ok, public_ok}
 use Rattle.primus_lwe_public_key.proofs.public_key.LwePublicKey.encrypt_message_to.Goals as goal
 
 pub returns-in_err-public_message_refusal : goal.returns-in_err-public_message_refusal
-returns-in_err-public_message_refusal c =
-    let p = err_from_is_err_and c.from_residual.result c.from_residual.ensures.1 in
-    rw (p.1, p.2) (record { writes = refused c.in_err-public_message_refusal.ensures })
+returns-in_err-public_message_refusal c = rw (handed_on _ c.from_residual.ensures.1) (record { writes = refused c.in_err-public_message_refusal.ensures })
+
+pub invariant_of-ring : goal.invariant_of-ring
+invariant_of-ring c = record { positive = positive c.args.params.modulus (passed _ (sym c.in_ok-public_message_refusal.ensures) 2 tt) }
 
 pub write_public-requires : goal.write_public-requires
 write_public-requires c =
-    let ready = publishable_message c.args.params c.args.key.now c.args.errors.now c.args.coefficients.now c.args.message (length c.args.out.now) (sym c.in_ok-public_message_refusal.ensures) in ready.plain.able
+    let no = passed _ (sym c.in_ok-public_message_refusal.ensures) in
+    public_ok _ c.args.errors.now c.args.coefficients.now _ _ c.args.params.error_limit (no 9 tt) (no 11 tt) (no 12 tt) (no 15 tt)
 
 pub returns : goal.returns
 returns c =
-    let ready = publishable_message c.args.params c.args.key.now c.args.errors.now c.args.coefficients.now c.args.message (length c.args.out.now) (sym c.in_ok-public_message_refusal.ensures) in
-    record {
-      writes =
-          done c.in_ok-public_message_refusal.ensures c.none.ensures
-          (c.write_public.ensures
-          ∙ ap₂ (λ (n x : ℕ). public_encrypted (size_of c.args.params.modulus) n c.args.key.now (signed c.args.errors.now) (pos x) (signed c.args.coefficients.now))
-          ready.plain.each (c.encode_or_zero-plaintext.ensures ∙ ready.word c.args.embedding));
-    }
+    let no = passed _ (sym c.in_ok-public_message_refusal.ensures) in
+    let plain =
+        encoded-is c.args.params (record { modulus_ok = no 2 tt; plaintext_ok = no 7 tt; small_ok = no 8 tt }) c.args.embedding c.args.message (no 16 tt) c.encode_or_zero-plaintext.ensures in
+    record { writes = done c.in_ok-public_message_refusal.ensures c.none.ensures (rw (lent_ok (length c.args.coefficients.now) _ _ _ (no 12 tt), plain) at c.write_public.ensures) }

@@ -1,28 +1,20 @@
-use Rattle.std.proofs.Common.{sym, ap, ◌∙◌, ◌+◌, ◌*◌, length}
-use Rattle.std.proofs.lemmas.Result.{err_from_is_err_and}
-use Rattle.scheme.proofs.Order.{done}
-use Rattle.check_order.proofs.Answers.{unwritten}
-use Rattle.lwe_secret_key.specs.Key.{key_of}
-use Rattle.scheme.specs.Lwe.{secret_of, signed, public_key}
-use Rattle.primus_reduce.specs.Ring.{size_of}
-use Rattle.primus_lwe_public_key.proofs.Laws.{generable}
+use Rattle.std.proofs.Common.{sym, length}
+use Rattle.scheme.proofs.Order.{passed, done}
+use Rattle.check_order.proofs.Answers.{handed_on, unwritten}
+use Rattle.primus_lwe.proofs.Laws.{positive}
+use Rattle.primus_lwe_public_key.proofs.Laws.{lent_ok, generation_ok}
 use Rattle.primus_lwe_public_key.proofs.public_key.LwePublicKey.generate.Goals as goal
 
 pub returns-in_err-generate_refusal : goal.returns-in_err-generate_refusal
-returns-in_err-generate_refusal c =
-    let p = err_from_is_err_and c.from_residual.result c.from_residual.ensures.1 in
-    rw (p.1, p.2) (record { writes = unwritten _ c.in_err-generate_refusal.ensures })
+returns-in_err-generate_refusal c = rw (handed_on _ c.from_residual.ensures.1) (record { writes = unwritten _ c.in_err-generate_refusal.ensures })
+
+pub invariant_of-ring : goal.invariant_of-ring
+invariant_of-ring c = record { positive = positive c.args.params.modulus (passed _ (sym c.in_ok-generate_refusal.ensures) 2 tt) }
 
 pub write_zeros-requires : goal.write_zeros-requires
-write_zeros-requires c =
-    let r = generable c.args.params (key_of c.args.secret) c.args.masks.now c.args.errors.now (length c.args.out.now) (sym c.in_ok-generate_refusal.ensures) in
-    let n = sym c.get-n.ensures in
-    (r.positive, r.each ∙ ap (λ n. n * n) n, r.fits ∙ ap (λ n. n * (n + 1)) n)
+write_zeros-requires c = let no = passed _ (sym c.in_ok-generate_refusal.ensures) in generation_ok _ _ _ _ _ (no 9 tt) (no 11 tt) (no 12 tt)
 
 pub returns : goal.returns
 returns c =
-    record {
-      writes =
-          done (sym c.in_ok-generate_refusal.ensures)
-          (c.write_zeros.ensures ∙ ap (λ n. public_key (size_of c.args.params.modulus) n c.args.masks.now (secret_of (key_of c.args.secret)) (signed c.args.errors.now)) c.get-n.ensures);
-    }
+    let accepted = sym c.in_ok-generate_refusal.ensures in
+    record { writes = done accepted (rw (lent_ok (length c.args.errors.now) _ _ _ (passed _ accepted 12 tt)) at c.write_zeros.ensures) }
