@@ -1,17 +1,9 @@
-use Rattle.std.proofs.Common.{rules, arith, ◌≡◌, List}
-use Rattle.std.proofs.lemmas.Grind.{common_steps}
-use Rattle.scheme.specs.Checks.{Check, refusal}
-use Rattle.scheme.specs.Lwe.{Words}
-use Rattle.check_order.specs.Answer.{number_of}
-use Rattle.check_order.proofs.Answers.{first_size, first_value}
-use Rattle.lwe_batch_refusals.specs.Rows.{encrypt_batch_rows}
+use Rattle.std.proofs.Common.{rules}
+use Rattle.check_order.proofs.Answers.{handed_on, first_size, first_value}
 use Rattle.lwe_batch_refusals.proofs.message_batch.encrypt_refusal.Goals as goal
 
 pub returns-in_err-judge : goal.returns-in_err-judge
-returns-in_err-judge c =
-    let rows : List Check = encrypt_batch_rows c.args.params (Words c.args.secret.now) c.args.masks.now c.args.errors.now c.args.messages.now c.args.room in
-    let told : number_of c.in_err-judge.field-0.0 ≡ refusal rows = first_size _ _ _ c.in_err-judge.ensures (search rules) in grind (arith, common_steps)
+returns-in_err-judge c = rw (handed_on _ c.from_residual.ensures.1) (first_size _ _ _ c.in_err-judge.ensures (search rules))
 
 pub returns : goal.returns
-returns c =
-    let rows : List Check = encrypt_batch_rows c.args.params (Words c.args.secret.now) c.args.masks.now c.args.errors.now c.args.messages.now c.args.room in first_value rows _ _ _ c.in_ok-judge.ensures (search rules) c.judge-2.ensures (search rules)
+returns c = first_value _ _ _ _ c.in_ok-judge.ensures (search rules) c.judge-2.ensures (search rules)
