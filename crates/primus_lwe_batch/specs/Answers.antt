@@ -1,5 +1,5 @@
 -- What each call on a batch promises. Masks and errors are lent in order of the rows.
-use Rattle.std.specs.Prelude.{List, ◌≡◌, ℕ, ◌+◌, ◌*◌, ◌/◌, ◌<◌, ℤ, length, Result}
+use Rattle.std.specs.Prelude.{List, ◌≡◌, ℕ, ◌+◌, ◌*◌, ◌/◌, ℤ, length, Result}
 use Rattle.scheme.specs.Numbers.{tabulate}
 use Rattle.scheme.specs.Lwe.{Key, secret_of, signed, encrypted_rows, phase_of, row_of}
 use Rattle.scheme.specs.Codec.{decode}
@@ -44,8 +44,3 @@ pub record DecryptsBatch (P : LweDecryptionParameters) (key : Key) (x before : L
       (λ i. decode (size_of P.modulus) P.plaintext_modulus
       (batch_phase (size_of P.modulus) P.dimension.0 key x i)))
       before r after
-
--- what taking phases asks, of n and the lengths of input and output: a row for each word of the output
-pub record Rowwise (q n words room : ℕ) : Type 0 where
-  pub positive : 0 < q
-  pub whole : words ≡ room * (n + 1)

@@ -1,5 +1,5 @@
 // Messages and phases of a batch.
-ghost use Rattle.std.specs.Prelude.{◌≡◌, false, ◌+◌, ◌*◌, ◌<◌, ◌≤◌, length};
+ghost use Rattle.std.specs.Prelude.{◌≡◌, false, ◌+◌, ◌*◌, ◌≤◌, length};
 ghost use Rattle.scheme.specs.Numbers.{tabulate};
 ghost use Rattle.scheme.specs.Lwe.{Words, words, signed, encrypted_rows};
 ghost use Rattle.scheme.specs.Checks.{messages_fail};
@@ -7,7 +7,7 @@ ghost use Rattle.primus_reduce.specs.Ring.{size_of};
 ghost use Rattle.check_order.specs.Answer.{code_of};
 ghost use Rattle.primus_lwe.specs.Answers.{Codable, encodings};
 ghost use Rattle.lwe_secret_key.specs.Runs.{Run};
-ghost use Rattle.primus_lwe_batch.specs.Answers.{EncryptsBatch, Rowwise, batch_phase, TakesPhases, DecryptsBatch};
+ghost use Rattle.primus_lwe_batch.specs.Answers.{EncryptsBatch, batch_phase, TakesPhases, DecryptsBatch};
 
 use check_order::Refusal;
 use lwe_batch_refusals::{decrypt_refusal, encrypt_refusal};
@@ -15,7 +15,7 @@ use lwe_parameters::{LweDecryptionParameters, LweParameters, LwePhaseParameters}
 use lwe_secret_key::LweSecretKeyRef;
 use lwe_tag::LweTag;
 use primus_encoding::{PlaintextEmbedding, RoundedCodec, encode_or_zero};
-use primus_reduce::Modulus;
+use primus_reduce::Ring;
 
 // A row for each message.
 fn write_messages(
@@ -27,22 +27,21 @@ fn write_messages(
     errors: &[i32],
     messages: &[u32],
 )
-    requires { Run (size_of params.modulus) (length secret.now) (length masks.now) (length errors.now)
-        (length out.old) × (length messages.now ≡ length errors.now)
+    requires { Run (length secret.now) (length masks.now) (length messages.now) (length out.old)
         × Codable params.plaintext_modulus params.modulus
         × (messages_fail params.plaintext_modulus messages.now ≡ false) }
     ensures { out.new ≡
-        encrypted_rows (size_of params.modulus) (length secret.now) (length errors.now)
+        encrypted_rows (size_of params.modulus) (length secret.now) (length messages.now)
         masks.now (words secret.now) (signed errors.now)
         (encodings embedding params messages.now) }
 {
     let key = LweSecretKeyRef::Encoded(secret);
     let modulus = params.modulus;
     let t = params.plaintext_modulus;
-    let n = secret.len();
+    let ring = Ring { modulus };
     for (i, message) in messages.iter().enumerate() {
         let plaintext = encode_or_zero(t, modulus, *message, embedding);
-        key.encrypt_row(out, masks, n, errors, i, plaintext, modulus);
+        key.encrypt_row(out, masks, errors, i, plaintext, ring);
     }
 }
 
@@ -65,25 +64,24 @@ pub fn encrypt_message_batch_to(
 }
 
 // The phase of row i.
-fn row_phase(input: &[u32], secret: &[u32], i: usize, modulus: Modulus) -> u32
-    requires { (0 < size_of modulus)
-        × (i * (length secret.now + 1) + (length secret.now + 1) ≤ length input.now) }
-    ensures { result ≡ batch_phase (size_of modulus) (length secret.now)
+fn row_phase(input: &[u32], secret: &[u32], i: usize, ring: Ring) -> u32
+    requires { i * (length secret.now + 1) + (length secret.now + 1) ≤ length input.now }
+    ensures { result ≡ batch_phase (size_of ring.modulus) (length secret.now)
         (Words secret.now) input.now i }
 {
     let n = secret.len();
     let at = i * (n + 1);
-    LweSecretKeyRef::Encoded(secret).phase(&input[at..at + (n + 1)], n, modulus)
+    LweSecretKeyRef::Encoded(secret).phase(&input[at..at + (n + 1)], ring)
 }
 
-fn row_phases(out: &mut [u32], input: &[u32], secret: &[u32], modulus: Modulus)
-    requires { Rowwise (size_of modulus) (length secret.now) (length input.now) (length out.old) }
+fn row_phases(out: &mut [u32], input: &[u32], secret: &[u32], ring: Ring)
+    requires { length input.now ≡ length out.old * (length secret.now + 1) }
     ensures { out.new ≡ tabulate (length out.old)
-        (batch_phase (size_of modulus) (length secret.now) (Words secret.now)
+        (batch_phase (size_of ring.modulus) (length secret.now) (Words secret.now)
         input.now) }
 {
     for (i, phase) in out.iter_mut().enumerate() {
-        *phase = row_phase(input, secret, i, modulus);
+        *phase = row_phase(input, secret, i, ring);
     }
 }
 
@@ -98,7 +96,10 @@ pub fn decrypt_phase_batch_to(
         out.new }
 {
     decrypt_refusal(params, None, secret, input, out.len())?;
-    row_phases(out, input, secret, params.modulus);
+    let ring = Ring {
+        modulus: params.modulus,
+    };
+    row_phases(out, input, secret, ring);
     Ok(())
 }
 
@@ -115,6 +116,6 @@ pub fn decrypt_message_batch_to(
     let modulus = params.modulus;
     let t = params.plaintext_modulus;
     decrypt_refusal(params.into(), Some(t), secret, input, out.len())?;
-    row_phases(out, input, secret, modulus);
+    row_phases(out, input, secret, Ring { modulus });
     RoundedCodec::given(t, modulus).decode_slice_assign(out)
 }

@@ -1,21 +1,22 @@
 use Rattle.std.proofs.Common.{sym, length}
-use Rattle.std.proofs.lemmas.Result.{err_from_is_err_and}
-use Rattle.scheme.specs.Lwe.{Words}
-use Rattle.scheme.proofs.Order.{done}
-use Rattle.check_order.proofs.Answers.{unwritten}
-use Rattle.primus_lwe_batch.proofs.Laws.{phasable}
+use Rattle.scheme.proofs.Checks.{length_ok}
+use Rattle.scheme.proofs.Order.{passed, done}
+use Rattle.check_order.proofs.Answers.{handed_on, unwritten}
+use Rattle.primus_lwe.proofs.Laws.{positive}
+use Rattle.primus_lwe_batch.proofs.Laws.{rows_ok}
 use Rattle.primus_lwe_batch.proofs.message_batch.decrypt_phase_batch_to.Goals as goal
 
 pub returns-in_err-decrypt_refusal : goal.returns-in_err-decrypt_refusal
-returns-in_err-decrypt_refusal c =
-    let p = err_from_is_err_and c.from_residual.result c.from_residual.ensures.1 in
-    rw (p.1, p.2) (record { writes = unwritten _ c.in_err-decrypt_refusal.ensures })
+returns-in_err-decrypt_refusal c = rw (handed_on _ c.from_residual.ensures.1) (record { writes = unwritten _ c.in_err-decrypt_refusal.ensures })
+
+pub invariant_of-ring : goal.invariant_of-ring
+invariant_of-ring c = record { positive = positive c.args.params.modulus (passed _ (sym c.in_ok-decrypt_refusal.ensures) 2 tt) }
 
 pub row_phases-requires : goal.row_phases-requires
-row_phases-requires c =
-    let r = phasable c.args.params (Words c.args.secret.now) c.args.input.now (length c.args.out.now) (sym c.in_ok-decrypt_refusal.ensures) in r.rows
+row_phases-requires c = let no = passed _ (sym c.in_ok-decrypt_refusal.ensures) in rows_ok _ _ _ _ (no 9 tt) (no 10 tt) (no 11 tt)
 
 pub returns : goal.returns
 returns c =
-    let r = phasable c.args.params (Words c.args.secret.now) c.args.input.now (length c.args.out.now) (sym c.in_ok-decrypt_refusal.ensures) in
-    record { writes = done (sym c.in_ok-decrypt_refusal.ensures) (rw (r.key, r.count) at c.row_phases.ensures) }
+    let accepted = sym c.in_ok-decrypt_refusal.ensures in
+    let no = passed _ accepted in
+    record { writes = done accepted (rw (length_ok (length c.args.secret.now) _ (no 9 tt), length_ok (length c.args.out.now) _ (no 11 tt)) at c.row_phases.ensures) }

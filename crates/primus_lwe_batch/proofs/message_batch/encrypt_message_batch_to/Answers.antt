@@ -1,20 +1,20 @@
 use Rattle.std.proofs.Common.{sym, length}
-use Rattle.std.proofs.lemmas.Result.{err_from_is_err_and}
-use Rattle.scheme.specs.Lwe.{Words}
+use Rattle.scheme.proofs.Checks.{length_ok}
+use Rattle.scheme.proofs.Order.{passed}
+use Rattle.check_order.proofs.Answers.{handed_on}
 use Rattle.lwe_tag.proofs.Writes.{refused, done}
-use Rattle.primus_lwe_batch.proofs.Laws.{batchable}
+use Rattle.primus_lwe_batch.proofs.Laws.{run_ok}
 use Rattle.primus_lwe_batch.proofs.message_batch.encrypt_message_batch_to.Goals as goal
 
 pub returns-in_err-encrypt_refusal : goal.returns-in_err-encrypt_refusal
-returns-in_err-encrypt_refusal c =
-    let p = err_from_is_err_and c.from_residual.result c.from_residual.ensures.1 in
-    rw (p.1, p.2) (record { writes = refused c.in_err-encrypt_refusal.ensures })
+returns-in_err-encrypt_refusal c = rw (handed_on _ c.from_residual.ensures.1) (record { writes = refused c.in_err-encrypt_refusal.ensures })
 
 pub write_messages-requires : goal.write_messages-requires
 write_messages-requires c =
-    let r = batchable c.args.params (Words c.args.secret.now) c.args.masks.now c.args.errors.now c.args.messages.now (length c.args.out.now) (sym c.in_ok-encrypt_refusal.ensures) in (r.run, r.each, r.codec, r.messages)
+    let no = passed _ (sym c.in_ok-encrypt_refusal.ensures) in
+    (run_ok _ _ _ _ _ _ (no 9 tt) (no 11 tt) (no 12 tt), record { modulus_ok = no 2 tt; plaintext_ok = no 7 tt; small_ok = no 8 tt }, no 16 tt)
 
 pub returns : goal.returns
 returns c =
-    let r = batchable c.args.params (Words c.args.secret.now) c.args.masks.now c.args.errors.now c.args.messages.now (length c.args.out.now) (sym c.in_ok-encrypt_refusal.ensures) in
-    record { writes = done c.in_ok-encrypt_refusal.ensures (rw c.from.ensures at c.with_tally.ensures) (rw (r.key, ← r.each) at c.write_messages.ensures) }
+    let key = length_ok (length c.args.secret.now) _ (passed _ (sym c.in_ok-encrypt_refusal.ensures) 9 tt) in
+    record { writes = done c.in_ok-encrypt_refusal.ensures (rw c.from.ensures at c.with_tally.ensures) (rw key at c.write_messages.ensures) }

@@ -10,7 +10,7 @@ loop-i-init c = tabled_start _ _
 
 pub loop-i-preserved : goal.loop-i-preserved
 loop-i-preserved c =
-    tabled_next (batch_phase (size_of c.args.modulus) (length c.args.secret.now) (Words c.args.secret.now) c.args.input.now) c.args.out.now _ _ c.loop-i.invariant _ (omega arith) c.row_phase.ensures
+    tabled_next (batch_phase (size_of c.args.ring.modulus) (length c.args.secret.now) (Words c.args.secret.now) c.args.input.now) c.args.out.now _ _ c.loop-i.invariant _ (omega arith) c.row_phase.ensures
 
 pub returns : goal.returns
 returns c = filled_end _ _ _ _ c.loop-i.invariant (omega arith)

@@ -7,4 +7,4 @@ use Rattle.primus_lwe_batch.specs.Answers.{batch_phase}
 use Rattle.primus_lwe_batch.proofs.message_batch.row_phases.Given as goal
 
 abbrev pub invariant-loop-i : goal.invariant-loop-i
-invariant-loop-i l = Filled (tabulate (length l.initial.out) (batch_phase (size_of l.modulus) (length l.secret) (Words l.secret) l.input)) l.initial.out l.out l.i
+invariant-loop-i l = Filled (tabulate (length l.initial.out) (batch_phase (size_of l.ring.modulus) (length l.secret) (Words l.secret) l.input)) l.initial.out l.out l.i
