@@ -1,4 +1,4 @@
-// What the plain numbers of a C call stand for: for the exports of saigagalena.
+// What the plain numbers of a C call stand for: for the exports of saigagalena. Stays: numbers, and one parameter for each: C.
 #![tactic(auto)]
 
 mod codec;
