@@ -1,6 +1,5 @@
 use Rattle.std.proofs.Common.{rules}
 use Rattle.check_order.proofs.Answers.{first_size, first_value, handed_on}
-use Rattle.lwe_samples.specs.Answers.{extract_rows}
 use Rattle.lwe_samples.proofs.extract_refusal.Goals as goal
 
 pub returns-in_err-judge : goal.returns-in_err-judge

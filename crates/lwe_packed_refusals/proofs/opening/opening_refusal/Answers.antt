@@ -4,11 +4,10 @@ use Rattle.lwe_packed_refusals.proofs.opening.opening_refusal.Goals as goal
 
 pub returns-in_err-judge : goal.returns-in_err-judge
 returns-in_err-judge c =
-    let sizes = opening_sizes c.args.params c.args.secret.now c.args.input.now c.args.room c.args.plaintext_modulus _ c.sizes_with-s.ensures in
-    rw (handed_on _ c.from_residual.ensures.1) (first_size _ _ _ c.in_err-judge.ensures (rw (c.differs.ensures, c.input_refused.ensures, c.output_differs.ensures) sizes))
+    rw (handed_on _ c.from_residual.ensures.1)
+    (first_size _ _ _ c.in_err-judge.ensures (rw (c.differs.ensures, c.input_refused.ensures, c.output_differs.ensures) (opening_sizes _ _ _ _ _ _ c.sizes_with-s.ensures)))
 
 pub returns : goal.returns
 returns c =
-    let sizes = opening_sizes c.args.params c.args.secret.now c.args.input.now c.args.room c.args.plaintext_modulus _ c.sizes_with-s.ensures in
-    let values = opening_values c.args.params c.args.secret.now c.args.input.now c.args.room c.args.plaintext_modulus in
-    first_value _ _ _ _ c.in_ok-judge.ensures (rw (c.differs.ensures, c.input_refused.ensures, c.output_differs.ensures) sizes) c.judge-2.ensures (rw c.both_refused.ensures values)
+    first_value _ _ _ _ c.in_ok-judge.ensures (rw (c.differs.ensures, c.input_refused.ensures, c.output_differs.ensures) (opening_sizes _ _ _ _ _ _ c.sizes_with-s.ensures))
+    c.judge-2.ensures (rw c.both_refused.ensures (opening_values _ _ _ _ _))
