@@ -25,6 +25,7 @@ pub fn say(rt: &impl Print, label: &[u8], number: u64) {
 }
 
 // A file to read; where it cannot be opened, standard error says why.
+// Stays: no clause, since `fs::open` has none: which file a name opens, and when it opens, no contract can say.
 pub fn open_named<R: Files + Eprint>(rt: &R, name: &str) -> Option<R::File> {
     match fs::open(rt, name) {
         Ok(file) => Some(file),
@@ -81,13 +82,6 @@ pub fn modulus_at(record: &[u8], at: usize) -> Modulus {
         return Modulus::Native;
     }
     Modulus::Explicit(little_endian::u32_at(record, at.wrapping_add(1)))
-}
-
-// The smaller of two lengths: a part of so many words is there, and the call that takes it judges whether they are enough.
-pub fn at_most(len: usize, most: usize) -> usize
-    ensures { result ≤ most }
-{
-    len.min(most)
 }
 
 // The first `count` words are the same; there are that many in both.
