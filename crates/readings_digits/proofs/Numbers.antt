@@ -32,7 +32,7 @@ use Rattle.gadget_constants.proofs.Constants.{decomposer_ready}
 use Rattle.primus_decompose.specs.Answers.{basis, rows, word_rows, base_word, signed_digit, prepared_by, prepared_answer, WhereReady}
 use Rattle.std.proofs.Common.{Result, Ok, Err}
 use Rattle.check_order.specs.declared.refusal.Refusal.{Refusal}
-use Rattle.check_order.proofs.Answers.{served}
+use Rattle.check_order.proofs.Answers.{accepted}
 use Rattle.primus_decompose.specs.declared.primitive.basis.ApproxSignedBasis.{ApproxSignedBasis}
 use Rattle.readings_digits.specs.Digits.{numbers, stepped_digit, shown_digit}
 
@@ -53,8 +53,8 @@ numbers_ext zero f g h = refl
 numbers_ext (suc n) f g h = ap₂ ◌∷◌ (h 0 (omega arith)) (numbers_ext n (λ i. f (suc i)) (λ i. g (suc i)) (λ i k. h (suc i) (omega arith)))
 
 -- a list of n numbers is those of f where each is
-pub is-numbers : (n : ℕ) (f : ℕ → ℤ) (xs : List ℤ) → length xs ≡ n → ((i : ℕ) → i < n → get_or xs i (pos 0) ≡ f i) → xs ≡ numbers n f
-is-numbers n f xs l h =
+pub is_numbers : (n : ℕ) (f : ℕ → ℤ) (xs : List ℤ) → length xs ≡ n → ((i : ℕ) → i < n → get_or xs i (pos 0) ≡ f i) → xs ≡ numbers n f
+is_numbers n f xs l h =
     ext_get_or (pos 0) xs (numbers n f) (l ∙ sym (length-numbers n f)) (λ i k. h i (omega arith) ∙ sym (get_or-numbers n f i (omega arith)))
 
 -- a loop that stores f j at place j
@@ -70,7 +70,7 @@ store_next w f j v l e h i k = go (ℕ_discrete i j)
 
 module _ (b : ApproxSignedBasis) (a : ℕ) (z : refusal (word_rows b a) ≡ 0) {r : Result PreparedBasis Refusal} (e : r ≡ prepared_answer b) (w : WhereReady r) where
   made : r ≡ Ok (prepared_by b)
-  made = e ∙ sym (served (rows b) (prepared_by b) (prepared_by b) (sym (passed_part (rows b) _ z)) refl)
+  made = e ∙ accepted (rows b) (prepared_by b) (passed_part (rows b) _ z)
 
   pub no_refusal : {n : Refusal} → r ≡ Err n → ⊥
   no_refusal {n} f = let g : ◌≡◌ {A = Result PreparedBasis Refusal} (Err n) (Ok (prepared_by b)) = sym f ∙ made in cc

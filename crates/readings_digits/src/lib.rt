@@ -20,6 +20,7 @@ fn shown(b: ApproxSignedBasis, digit: u32, j: usize) -> i64
     0
 }
 
+#[tactic(auto, using(gadget_digits::proofs::Columns::after_none, crate::proofs::Numbers::is_numbers))]
 fn of_steps(b: ApproxSignedBasis, start: SignedDecomposer) -> [i64; 16]
     ensures { result ≡ numbers 16 (stepped_digit b start) }
 {
@@ -34,6 +35,7 @@ fn of_steps(b: ApproxSignedBasis, start: SignedDecomposer) -> [i64; 16]
 }
 
 // The L digits of a word, and zeros above them.
+#[tactic(auto, using(crate::proofs::Numbers::shown_digits, crate::proofs::Numbers::no_refusal))]
 pub fn of_word(b: ApproxSignedBasis, word: u32) -> [i64; 16]
     requires { refusal (word_rows b word) ≡ 0 }
     ensures { result ≡ numbers 16 (shown_digit b word) }

@@ -99,19 +99,6 @@ module _ {m : Reader} {done : ℕ} (r : Reached m done) {s : Step} (p : Stepped 
         last = f ∙ ap finished new_reader;
       }
 
--- no read is left
-pub spent : {m : Reader} {done : ℕ} → Reached m done → done ≤ 2 ^ 64 - 1 → 2 ^ 64 - 1 ≤ done → {t : Turn} → t ≡ finished m → Ran t
-spent r most h f =
-    record {
-      reads = r.reads;
-      some = omega (arith, r.counted);
-      most = omega (arith, r.counted);
-      fits = r.fits;
-      goes_on = λ i k. r.goes_on i (omega arith);
-      stops = λ k. absurd (omega (arith, r.counted));
-      last = f ∙ ap finished r.fed-so;
-    }
-
 -- ---- the lines
 
 lines_append : (m : Reader) (xs ys : List ℕ) → lines_fed m (xs ++ ys) ≡ dues (turns_fed m xs) ++ lines_fed (fed_all m xs) ys

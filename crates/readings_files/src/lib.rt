@@ -31,6 +31,7 @@ fn last(m: Reader, output: &mut impl Write) -> Turn
 }
 
 // Commands until the input ends or 19 ends it; the answer is the last one. The language asks for a bound on the reads: 2^64 − 1.
+#[tactic(auto, using(crate::proofs::Runs::begin, crate::proofs::Runs::again))]
 pub fn run(input: &mut impl Read, output: &mut impl Write) -> Turn
     ensures { Ran result }
 {

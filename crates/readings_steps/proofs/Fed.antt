@@ -6,17 +6,13 @@ use mathlib.Core.List.{List, [], ◌∷◌, ◌++◌}
 use Prim.Native.Nat.{ℕ, zero, suc, ◌+◌, ◌≤◌, ◌<◌}
 use native.Mathlib.Numerals.{add-one}
 use native.Mathlib.Omega.{arith}
-use lib.ListN.{length, take, get_or, set, replicate, length-take}
+use lib.ListN.{length, take, get_or, set, replicate}
 use lib.Seq.{take-suc, take_all, length-take-le}
 use Rattle.readings_core.specs.declared.command.Turn.{Turn}
 use Rattle.readings_reader.specs.declared.reader.Reader.{Reader}
 use Rattle.readings_reader.specs.Run.{fed}
 use Rattle.readings_steps.specs.declared.step.Step.{Step}
 use Rattle.readings_steps.specs.Steps.{fed_all, turns_fed, places, ended, step_of}
-
-pub fed_none : (m : Reader) → m ≡ fed_all m []
-unfolding fed_all
-fed_none m = refl
 
 pub fed-append : (m : Reader) (xs ys : List ℕ) → fed_all m (xs ++ ys) ≡ fed_all (fed_all m xs) ys
 unfolding fed_all
@@ -41,10 +37,6 @@ pub fed-next : (m r : Reader) (xs : List ℕ) (i : ℕ) → i < length xs → r 
 unfolding fed_all
 fed-next m r xs i h e =
     ap (λ s. fed s (get_or xs i 0)) e ∙ sym (fed-append m (take i xs) (get_or xs i 0 ∷ [])) ∙ ap (fed_all m) (sym (one_more_lem xs i h))
-
--- a part of a buffer is no longer than it
-pub short : (n : ℕ) (xs : List ℕ) → length xs ≡ 64 → length (take n xs) ≤ 64
-short n xs e = omega (arith, length-take n xs)
 
 -- ---- places
 

@@ -28,6 +28,7 @@ fn has_ended(m: Reader, count: usize) -> bool
 }
 
 // Feeds the bytes of one read. Places without a byte hold the turn before.
+#[tactic(auto, using(crate::proofs::Fed::step_so))]
 pub fn feed_all(before: Reader, bytes: &[u8]) -> Step
     ensures { result ≡ step_of before bytes.now }
 {

@@ -1,13 +1,13 @@
 use Rattle.std.proofs.Common.{◌≡◌, ◌+◌, refl, ap, ◌∙◌, length, take}
 use Rattle.std.proofs.Math.ListN.{set}
-use Rattle.readings_steps.specs.Steps.{turns_fed, places}
-use Rattle.readings_steps.proofs.Fed.{fed_none, fed-next, no_turns, length-places, put_next, full_next, step_so}
+use Rattle.readings_steps.specs.Steps.{fed_all, turns_fed, places}
+use Rattle.readings_steps.proofs.Fed.{fed-next, no_turns, length-places, put_next, full_next}
 use Rattle.readings_steps.proofs.step.feed_all.Goals as goal
 use Rattle.readings_steps.proofs.step.feed_all.Goals.{then-i-lt64, else-i-lt64}
 
 pub loop-i-init : goal.loop-i-init
-unfolding turns_fed
-loop-i-init c = (refl, fed_none _, no_turns 64 _)
+unfolding fed_all turns_fed
+loop-i-init c = (refl, refl, no_turns 64 _)
 
 pub loop-i-preserved : goal.loop-i-preserved
 loop-i-preserved c =
@@ -26,7 +26,3 @@ loop-i-preserved c =
       c.feed-m.ensures ∙ fed-next a l.m c.args.bytes.now l.i h v.1,
       placed,
     )
-
-pub returns : goal.returns
-returns c =
-    step_so _ _ _ c.loop-i.i _ _ c.loop-i-test.false c.loop-i.invariant.1 c.loop-i.invariant.2 c.has_ended.ensures
