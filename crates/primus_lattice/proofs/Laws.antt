@@ -11,8 +11,6 @@ use Rattle.lwe_tag.specs.declared.LweTag.{LweTag}
 use Rattle.lwe_tag.specs.Answers.{cap, tally_of}
 use Rattle.primus_lattice.specs.Answers.{add_rows}
 
--- ---- words
-
 -- ---- what the checks of a sum leave
 
 pub record Addable (q : ℕ) (x : List ℕ) (g : LweTag) (y : List ℕ) (h : LweTag) : Type 0 where

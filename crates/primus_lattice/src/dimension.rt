@@ -33,6 +33,7 @@ impl LweDimension {
     }
 
     // Any number, as a caller gives it: the calls judge it by 6, in its place in the order.
+    // Stays: a name of its own, no From: beside `try_new` that would be read as the judged way.
     pub fn given(dimension: usize) -> LweDimension
         ensures { result ≡ given dimension }
     {
@@ -60,6 +61,7 @@ impl LweDimension {
     }
 
     // 10, 11: `len` is not n + 1.
+    // Stays: a method that only calls on: it passes its own number.
     pub fn ciphertext_differs(self, len: usize) -> bool
         ensures { result ≡ length_fails len (self.0 + 1) }
     {

@@ -11,17 +11,6 @@ use check_order::{Refusal, Sizes, Values};
 use lwe_tag::LweTag;
 use primus_reduce::Modulus;
 
-// x + y modulo 2^32. Nothing is judged in the loop, so that it vectorizes.
-#[tactic(auto, using(scheme::proofs::InPlace::filled_start, scheme::proofs::InPlace::filled_end, scheme::proofs::InPlace::length_zip))]
-fn add_native(x: &mut [u32], y: &[u32])
-    requires { length x.old ≡ length y.now }
-    ensures { x.new ≡ add_words (2 ^ 32) x.old y.now }
-{
-    for (i, word) in x.iter_mut().enumerate() {
-        *word = word.wrapping_add(y[i]);
-    }
-}
-
 // a + b modulo q, of words below q: neither branch wraps or divides.
 fn add_below(a: u32, b: u32, q: u32) -> u32
     requires { (a < q) × (b < q) }
@@ -31,25 +20,26 @@ fn add_below(a: u32, b: u32, q: u32) -> u32
     if a < room { a + b } else { a - room }
 }
 
-// x + y modulo q, of words below q.
-#[tactic(auto, using(scheme::proofs::InPlace::filled_start, scheme::proofs::InPlace::filled_end, scheme::proofs::InPlace::length_zip))]
-fn add_explicit(x: &mut [u32], y: &[u32], q: u32)
-    requires { (length x.old ≡ length y.now) × (words_fail q x.old ≡ false) × (words_fail q y.now ≡ false) }
-    ensures { x.new ≡ add_words q x.old y.now }
+// a + b modulo q.
+fn add_word(a: u32, b: u32, modulus: Modulus) -> u32
+    requires { (a < size_of modulus) × (b < size_of modulus) }
+    ensures { result ≡ (a + b) % size_of modulus }
 {
-    for (i, word) in x.iter_mut().enumerate() {
-        *word = add_below(*word, y[i], q);
+    match modulus {
+        Modulus::Native => a.wrapping_add(b),
+        Modulus::Explicit(q) => add_below(a, b, q),
     }
 }
 
+// x + y modulo q. Nothing is judged in the loop, and LLVM lifts the match on q out of it, so that it vectorizes.
+#[tactic(auto, using(scheme::proofs::InPlace::filled_start, scheme::proofs::InPlace::filled_end, scheme::proofs::InPlace::length_zip))]
 fn add_words(x: &mut [u32], y: &[u32], modulus: Modulus)
     requires { (length x.old ≡ length y.now)
         × (words_fail (size_of modulus) x.old ≡ false) × (words_fail (size_of modulus) y.now ≡ false) }
     ensures { x.new ≡ add_words (size_of modulus) x.old y.now }
 {
-    match modulus {
-        Modulus::Native => add_native(x, y),
-        Modulus::Explicit(q) => add_explicit(x, y, q),
+    for (i, word) in x.iter_mut().enumerate() {
+        *word = add_word(*word, y[i], modulus);
     }
 }
 

@@ -1,13 +1,12 @@
 use Rattle.std.proofs.Common.{◌∙◌}
-use Rattle.std.proofs.lemmas.Result.{err_from_is_err_and}
+use Rattle.check_order.proofs.Answers.{handed_on}
 use Rattle.lwe_tag.proofs.Laws.{sum-within}
 use Rattle.lwe_tag.proofs.Writes.{refused, done}
 use Rattle.primus_lattice.proofs.Laws.{addable}
 use Rattle.primus_lattice.proofs.single_message.add_assign.Goals as goal
 
 pub returns-in_err-add_refusal : goal.returns-in_err-add_refusal
-returns-in_err-add_refusal c = let p = err_from_is_err_and c.from_residual.result c.from_residual.ensures.1 in
-    rw (p.1, p.2) (record { writes = refused c.in_err-add_refusal.ensures })
+returns-in_err-add_refusal c = rw (handed_on _ c.from_residual.ensures.1) (record { writes = refused c.in_err-add_refusal.ensures })
 
 pub add_words-requires : goal.add_words-requires
 add_words-requires c =

@@ -1,7 +1,0 @@
-use Rattle.std.proofs.Common.{◌^◌}
-use Rattle.scheme.specs.Lwe.{add_words}
-use Rattle.scheme.proofs.InPlace.{Filled}
-use Rattle.primus_lattice.proofs.single_message.add_native.Given as goal
-
-abbrev pub invariant-loop-i : goal.invariant-loop-i
-invariant-loop-i l = Filled (add_words (2 ^ 32) l.initial.x l.y) l.initial.x l.x l.i
