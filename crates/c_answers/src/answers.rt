@@ -29,6 +29,7 @@ impl From<Result<LweTag, Refusal>> for LweOutcome {
 }
 
 // 0, or the refusal's number.
+// Stays: an answer as a number: C has numbers alone.
 pub fn code(answer: Result<(), Refusal>) -> u32
     ensures { result ≡ code_of answer }
 {

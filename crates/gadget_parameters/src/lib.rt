@@ -52,6 +52,7 @@ impl DecompositionBaseLog {
     }
 
     // Any number, as a caller gives it: the calls judge it by 1, in its place in the order.
+    // Stays: a name of its own, no From: beside `try_new` that would be read as the judged way.
     pub fn given(log_basis: u32) -> DecompositionBaseLog
         ensures { result.0 ≡ log_basis }
     {
@@ -129,6 +130,7 @@ impl DecompositionLevelCount {
     }
 
     // 11: `len` is not L runs of `width`.
+    // Stays: a method that only calls on: it passes its own number.
     pub fn runs_differ(self, len: usize, width: usize) -> bool
         ensures { result ≡ length_fails len (self.0 * width) }
     {

@@ -21,7 +21,7 @@ fn levels(n: u32) -> Option<DecompositionLevelCount> {
 }
 
 // What the calls are given; a basis that is refused is not there.
-fn given(h: Head) -> Result<LweKeySwitchingParameters, Refusal> {
+fn parameters_of(h: Head) -> Result<LweKeySwitchingParameters, Refusal> {
     let base_log = DecompositionBaseLog::given(h.base_log);
     let basis = ApproxSignedBasis::try_new(h.modulus, base_log, levels(h.levels))?;
     Ok(LweKeySwitchingParameters {
@@ -33,14 +33,14 @@ fn given(h: Head) -> Result<LweKeySwitchingParameters, Refusal> {
 
 // A number that names no kind: what refuses its basis, if anything does.
 pub(crate) fn unnamed(h: Head) -> Said {
-    match given(h) {
+    match parameters_of(h) {
         Ok(_) => None,
         Err(refusal) => Some(Err(refusal)),
     }
 }
 
 fn tried(h: Head) -> Result<(), Refusal> {
-    let p = given(h)?;
+    let p = parameters_of(h)?;
     LweKeySwitchingParameters::try_new(p.basis, p.input_dimension, p.output_dimension)?;
     Ok(())
 }
@@ -53,7 +53,7 @@ pub(crate) fn parameters(h: Head) -> Said {
 fn generated(r: &Record, form: Form, out: &mut [u32]) -> Result<(), Refusal> {
     let h = r.head;
     let secret = form.key(r);
-    LweKeySwitchingKey::generate(given(h)?, h.error_limit, secret, &r.c, &r.b, &r.e, out)
+    LweKeySwitchingKey::generate(parameters_of(h)?, h.error_limit, secret, &r.c, &r.b, &r.e, out)
 }
 
 pub(crate) fn key(r: &Record, form: Form, out: &mut [u32]) -> Said {
@@ -62,7 +62,7 @@ pub(crate) fn key(r: &Record, form: Form, out: &mut [u32]) -> Said {
 
 // A switch: key a, input b.
 fn switched(r: &Record, out: &mut [u32]) -> Result<LweTag, Refusal> {
-    key_switch_to(given(r.head)?, &r.a, &r.b, out)
+    key_switch_to(parameters_of(r.head)?, &r.a, &r.b, out)
 }
 
 pub(crate) fn single(r: &Record, out: &mut [u32]) -> Said {
@@ -70,7 +70,7 @@ pub(crate) fn single(r: &Record, out: &mut [u32]) -> Said {
 }
 
 fn switched_batch(r: &Record, out: &mut [u32]) -> Result<LweTag, Refusal> {
-    key_switch_batch_to(given(r.head)?, &r.a, &r.b, out)
+    key_switch_batch_to(parameters_of(r.head)?, &r.a, &r.b, out)
 }
 
 pub(crate) fn batch(r: &Record, out: &mut [u32]) -> Said {
@@ -94,7 +94,7 @@ fn placed(answer: Result<Option<usize>, Refusal>, part: &[u32], out: &mut [u32])
 pub(crate) fn entry(r: &Record, out: &mut [u32]) -> Said {
     let h = r.head;
     let (i, j) = (h.value as usize, h.t as usize);
-    match given(h) {
+    match parameters_of(h) {
         Ok(params) => {
             let answer = LweKeySwitchingKey::entry(params, &r.a, i, j);
             let part = LweKeySwitchingKey::entry_words(params, &r.a, i, j);
