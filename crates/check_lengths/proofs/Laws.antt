@@ -2,8 +2,8 @@
 -- Assumes nothing.
 use mathlib.Core.Path.{◌≡◌, refl, sym, ap, ◌∙◌}
 use mathlib.Core.Bool.{Bool, true, false, not}
-use Prim.Native.Nat.{ℕ, ◌+◌, ◌*◌, ◌-◌, ◌/◌, ◌%◌, ◌≤◌}
-use native.Mathlib.Nat.{mul-zero, mul-mod_left, mul-div_cancel, div-add-mod, mod-eq_of_lt, div-eq_of_lt}
+use Prim.Native.Nat.{ℕ, ◌+◌, ◌*◌, ◌/◌, ◌%◌, ◌≤◌}
+use native.Mathlib.Nat.{mul-mod_left, mul-div_cancel, div-add-mod, mod-eq_of_lt}
 use native.Mathlib.Omega.{arith}
 use lib.Dec.{eqb}
 use borrow.Author.Tests.{eq-eqb, ne_eqb, eqb-true, eqb-false, not-false}
@@ -18,9 +18,6 @@ eqb_iff a b c d f g = go (eqb a b) refl
     go false e = sym (ne_eqb c d (λ k. eqb-false a b e (g k)))
 
 module _ (len count width : ℕ) where
-  pub runs_none : width ≡ 0 → not (eqb len 0) ≡ length_fails len (count * width)
-  runs_none e = ap (λ n. not (eqb len n)) (sym (ap (λ w. count * w) e ∙ mul-zero count))
-
   pub runs_cut : (len % width ≡ 0 → ⊥) → true ≡ length_fails len (count * width)
   runs_cut h = sym (ap not (ne_eqb len (count * width) (λ e. h (ap (λ n. n % width) e ∙ mul-mod_left count width))))
 
@@ -31,20 +28,10 @@ module _ (len count width : ℕ) where
       (λ e. let d = div-add-mod len width in omega (arith, d, ap (λ n. width * n) e))
       (λ e. ap (λ n. n / width) e ∙ mul-div_cancel count (omega arith)))
 
--- n words and one more
-pub one_more_none : (len n : ℕ) → len ≡ 0 → true ≡ length_fails len (n + 1)
-one_more_none len n e = sym (ap not (ne_eqb len (n + 1) (λ z. omega arith)))
-
-pub one_more_lem : (len n : ℕ) → (len ≡ 0 → ⊥) → not (eqb (len - 1) n) ≡ length_fails len (n + 1)
-one_more_lem len n h = ap not (eqb_iff (len - 1) n len (n + 1) (λ e. omega arith) (λ e. omega arith))
-
 -- ---- batches of n + 1 words a row
 
 pub batch_short : (len n : ℕ) → len ≤ n → not (eqb len 0) ≡ batch_fails len n
 batch_short len n h = ap (λ x. not (eqb x 0)) (sym (mod-eq_of_lt {m = n + 1} (omega arith)))
-
-pub count-short : (len n : ℕ) → len ≤ n → 0 ≡ len / (n + 1)
-count-short len n h = sym (div-eq_of_lt (omega arith))
 
 -- `count` rows of n + 1 words
 module _ (len count n : ℕ) where

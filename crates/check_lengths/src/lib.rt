@@ -29,6 +29,7 @@ pub fn ciphertext_differs(len: usize, n: usize) -> bool
 }
 
 // 9 to 12: `len` is not `count` runs of `width`. No product: it could overflow.
+#[tactic(auto, using(crate::proofs::Laws::runs_cut))]
 pub fn runs_differ(len: usize, count: usize, width: usize) -> bool
     ensures { result ≡ length_fails len (count * width) }
 {
@@ -42,6 +43,7 @@ pub fn runs_differ(len: usize, count: usize, width: usize) -> bool
 }
 
 // 10: `len` is not a multiple of n + 1. No sum where it could overflow.
+#[tactic(auto, using(crate::proofs::Laws::batch_short))]
 pub fn batch_differs(len: usize, n: usize) -> bool
     ensures { result ≡ batch_fails len n }
 {
@@ -62,6 +64,7 @@ pub fn batch_count(len: usize, n: usize) -> usize
 }
 
 // 11: `len` is not `count` ciphertexts of n + 1 words.
+#[tactic(auto, using(crate::proofs::Laws::rows_cut, crate::proofs::Laws::rows_whole))]
 pub fn ciphertexts_differ(len: usize, count: usize, n: usize) -> bool
     ensures { result ≡ length_fails len (count * (n + 1)) }
 {

@@ -67,6 +67,7 @@ fn any_refused(s: &[u32], q: u32) -> bool
 }
 
 // 14, a run of words. Every word is below the native modulus.
+#[tactic(auto, using(crate::proofs::Laws::words_below))]
 pub fn words_refused(q: Modulus, s: &[u32]) -> bool
     ensures { result ≡ words_fail (size_of q) s.now }
 {

@@ -27,9 +27,6 @@ pub record Written (b : Basis) (xs : List ℕ) (i : ℕ) (out : List ℕ) : Type
   pub sized : length out ≡ b.levels * length xs
   pub digits : (j k : ℕ) → j < b.levels → k < i → get_or out (j * length xs + k) 0 ≡ stored b.modulus (digit b (get_or xs k 0) j)
 
-pub written_none : (b : Basis) (xs out : List ℕ) → length out ≡ b.levels * length xs → Written b xs 0 out
-written_none b xs out l = record { sized = l; digits = λ j k h g. absurd (omega arith) }
-
 pub written_next : (p : PreparedBasis) → Ready p → (xs : List ℕ) (i : ℕ) (out out' : List ℕ) (d : SignedDecomposer) → i < length xs
     → d ≡ decomposer_of (basis_in p) (get_or xs i 0) → Column d p.level_count (length xs) i out out' → Written (basis_in p) xs i out → Written (basis_in p) xs (i + 1) out'
 written_next p r xs i out out' d h e c w =

@@ -1,12 +1,15 @@
 -- The constants of a basis, and where the walk of a word begins.
 -- Assumes nothing.
-use Rattle.std.proofs.Common.{◌≡◌, ℕ, zero, suc, ◌+◌, ◌-◌, ◌*◌, ◌/◌, ◌%◌, ◌^◌, ◌<◌, ◌≤◌, max, false, eqb, ltb, refl, ap, ◌∙◌, ap₂, mod-eq_of_lt, mul_comm, mul-le-mul, arith, pow_pos, pow_mono, le-ltb, lt-ltb}
+use Rattle.std.proofs.Common.{◌≡◌, ℕ, zero, suc, ◌+◌, ◌-◌, ◌*◌, ◌/◌, ◌%◌, ◌^◌, ◌<◌, ◌≤◌, max, false, eqb, ltb, refl, ap, ◌∙◌, ap₂, mod-eq_of_lt, mul_comm, mul-le-mul, arith, pow_pos, pow_mono}
 use lib.Pow.{pow-lt}
 use Rattle.scheme.specs.Numbers.{pick}
-use Rattle.scheme.specs.Basis.{base, bound_of, dropped}
+use Rattle.scheme.specs.Basis.{bound_of, dropped}
 use Rattle.scheme.specs.Reading.{largest, threshold}
 use Rattle.scheme.proofs.Reading.{pow-mul, threshold-half}
+use Rattle.scheme.specs.Modulus.{Fits, bits}
+use Rattle.scheme.specs.Checks.{refusal, basis_rows}
 use Rattle.scheme.proofs.Checks.{Sound}
+use Rattle.gadget_constants.proofs.Sound.{sound-basis}
 use Rattle.gadget_digits.specs.Step.{first_carry, decomposer_of}
 use Rattle.gadget_constants.specs.Prepared.{wrap_at, Narrow, Ready, basis_by, basis_in, prepared_of}
 use Rattle.gadget_constants.specs.Word.{adjust_by, init_from, init_of, decomposer_from}
@@ -37,10 +40,10 @@ unfolding carry_in
 carry_none zero v e = refl
 carry_none (suc d) v e = absurd (omega arith)
 
-pub carry-some : (d v : ℕ) → (d ≡ 0 → ⊥) → eqb (v / 2 ^ (d - 1) % 2) 1 ≡ eqb (carry_in d v) 1
+pub carry_some : (d v : ℕ) → (d ≡ 0 → ⊥) → eqb (v / 2 ^ (d - 1) % 2) 1 ≡ eqb (carry_in d v) 1
 unfolding carry_in
-carry-some zero v e = absurd (e refl)
-carry-some (suc d) v e = ap (λ n. eqb (v / 2 ^ n % 2) 1) less
+carry_some zero v e = absurd (e refl)
+carry_some (suc d) v e = ap (λ n. eqb (v / 2 ^ n % 2) 1) less
   where
     less : suc d - 1 ≡ d
     less = omega arith
@@ -113,55 +116,71 @@ module _ (m : Modulus) (b L : ℕ) (s : Sound 32 (meant m) b L) where
             );
       }
 
-  -- what the code of the constants asks, with k and q as it holds them
-  module _ (k q : ℕ) (ek : k ≡ (basis_by m b L).bits) (eq : q ≡ size_of m) where
-    pub room_of : L * b ≤ k
-    room_of = omega (arith, levels-room)
+-- what the code of the constants asks, with k and q as it holds them
+pub record Asked (m : Modulus) (b L k q : ℕ) : Type 0 where
+  pub sound : Sound 32 (meant m) b L
+  pub bits-is : k ≡ (basis_by m b L).bits
+  pub size_is : q ≡ size_of m
+  pub count : L < 2 ^ 32
+  pub product : L * b < 2 ^ 32
+  pub log : b ≤ 32
+  pub within : k ≤ 32
+  pub room : L * b ≤ k
+  pub narrow : Narrow b L (k - L * b)
+  pub covered : q ≤ 2 ^ k
+  pub base : 2 ^ b ≤ q
+  pub added : 2 ^ k - q < 2 ^ 32
 
-    pub product-fits : L * b < 2 ^ 32
-    product-fits = omega (arith, levels-room, s.bits-within)
+pub asked : (m : Modulus) (b L k q : ℕ) → (q ≡ size_of m) × Fits 32 (meant m) → refusal (basis_rows 32 (meant m) b L) ≡ 0 → k ≡ bits 32 (meant m)
+    → Asked m b L k q
+unfolding dropped
+asked m b L k q eq z ek =
+    let s = sound-basis m b L eq.1 z in
+    let covered : q ≤ 2 ^ k = rw (ek, eq.0) s.accepted.covered in
+    let base : 2 ^ b ≤ q = rw eq.0 s.accepted.fits in
+    record {
+      sound = s;
+      bits-is = ek;
+      size_is = eq.0;
+      count = omega (arith, levels-most m b L s);
+      product = omega (arith, s.levels-within, s.bits-within);
+      log = omega (arith, s.log_most);
+      within = omega (arith, s.bits-within);
+      room = omega (arith, s.levels-within);
+      narrow = rw ek (narrow m b L s);
+      covered = covered;
+      base = base;
+      added = omega (arith, base, pow_pos b, pow_mono {i = k} {j = 32} (omega (arith, s.bits-within)));
+    }
 
-    pub narrow_of : Narrow b L (k - L * b)
-    unfolding dropped
-    narrow_of = rw ek narrow
-
-    pub covered_of : q ≤ 2 ^ k
-    covered_of = rw (ek, eq) s.accepted.covered
-
-    pub base_of : 2 ^ b ≤ q
-    base_of = rw eq s.accepted.fits
-
-    pub add-fits : 2 ^ k - q < 2 ^ 32
-    add-fits = omega (arith, base_of, pow_pos b, pow_mono {i = k} {j = 32} (omega (arith, s.bits-within)))
-
-    pub ready_of : (T x y : ℕ) → T ≡ wrap_at b L (k - L * b) → x ≡ 2 ^ k → y ≡ 2 ^ b
-        → Ready (record { modulus = m; log_basis = b; level_count = L; drop_bits = k - L * b; threshold = T; add = x - q; modulus_minus_basis = q - y })
-    unfolding dropped
-    ready_of T x y eT ex ey =
-        record {
-          sound = s;
-          dropped-is = ap (λ n. n - L * b) ek;
-          threshold-is = eT ∙ ap (λ n. wrap_at b L (n - L * b)) ek ∙ wrap_is;
-          add_is = ap₂ ◌-◌ (ex ∙ ap (λ n. 2 ^ n) ek) eq;
-          offset_is = ap₂ ◌-◌ eq ey;
-        }
+pub ready_of : {m : Modulus} {b L k q : ℕ} → Asked m b L k q → (T x y : ℕ) → T ≡ wrap_at b L (k - L * b) → x ≡ 2 ^ k → y ≡ 2 ^ b
+    → Ready (record { modulus = m; log_basis = b; level_count = L; drop_bits = k - L * b; threshold = T; add = x - q; modulus_minus_basis = q - y })
+unfolding dropped
+ready_of {m} {b} {L} {k} {q} s T x y eT ex ey =
+    record {
+      sound = s.sound;
+      dropped-is = ap (λ n. n - L * b) s.bits-is;
+      threshold-is = eT ∙ ap (λ n. wrap_at b L (n - L * b)) s.bits-is ∙ wrap_is m b L s.sound;
+      add_is = ap₂ ◌-◌ (ex ∙ ap (λ n. 2 ^ n) s.bits-is) s.size_is;
+      offset_is = ap₂ ◌-◌ s.size_is ey;
+    }
 
 -- ---- where the walk of a word begins
+
+pub dropped_most : (p : PreparedBasis) → Ready p → p.drop_bits < 32
+unfolding dropped
+dropped_most p r =
+    omega (
+      arith,
+      r.dropped-is,
+      r.sound.bits-within,
+      mul-le-mul {n₁ = 1} {m₁ = 2} {n₂ = p.level_count} {m₂ = p.log_basis} r.sound.accepted.some_level r.sound.log_least,
+    )
 
 module _ (p : PreparedBasis) (r : Ready p) (a : ℕ) (h : a < size_of p.modulus) where
   pub adjust_fits : a + p.add < 2 ^ 32
   adjust_fits =
       omega (arith, r.add_is, r.sound.accepted.covered, pow_mono {i = (basis_in p).bits} {j = 32} r.sound.bits-within)
-
-  pub dropped-most : p.drop_bits < 32
-  unfolding dropped
-  dropped-most =
-      omega (
-        arith,
-        r.dropped-is,
-        r.sound.bits-within,
-        mul-le-mul {n₁ = 1} {m₁ = 2} {n₂ = p.level_count} {m₂ = p.log_basis} r.sound.accepted.some_level r.sound.log_least,
-      )
 
   -- by the constants of an accepted basis
   pub init_ready : init_from p a ≡ init_of (basis_in p) a

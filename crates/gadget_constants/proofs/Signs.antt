@@ -1,34 +1,16 @@
 -- Differences of words as signed numbers of 64 bits, and the reading in that form.
 -- Assumes nothing.
-use Rattle.std.proofs.Common.{◌≡◌, ℕ, ◌+◌, ◌/◌, ◌%◌, ◌^◌, ◌<◌, ◌≤◌, Bool, true, false, ltb, ℤ, pos, ◌-ℤ◌, sym, ap, ◌∙◌, ap₂, arith, to_z-of_z, w64, SFits, to_z, of_z, le-ltb, lt-ltb}
-use lib.Signed.{mag}
-use mir.Facts.{to_z_pos}
+use Rattle.std.proofs.Common.{◌≡◌, ℕ, ◌+◌, ◌%◌, ◌^◌, ltb, ℤ, pos, ◌-ℤ◌, sym, ap, ◌∙◌, ap₂}
 use Rattle.scheme.specs.Numbers.{pick}
 use Rattle.scheme.specs.Basis.{bound_of, dropped, bound}
-use Rattle.scheme.specs.Reading.{threshold, reading}
+use Rattle.scheme.specs.Reading.{threshold}
 use Rattle.gadget_digits.specs.Walk.{adjusted}
-use Rattle.scheme.proofs.Integers.{◌⊖◌, ⊖-ind, ⊖-eq, diff}
 use Rattle.gadget_digits.proofs.Adjusted.{reading_rest, rounding_rest}
 use Rattle.primus_reduce.specs.Ring.{size_of}
 use Rattle.gadget_constants.specs.declared.prepared.PreparedBasis.{PreparedBasis}
 use Rattle.gadget_constants.specs.declared.word.ValueCarry.{ValueCarry}
 use Rattle.gadget_constants.specs.Prepared.{Ready, basis_in}
 use Rattle.gadget_constants.specs.Word.{init_of, reading_of}
-
-difference : (a b : ℕ) → pos a -ℤ pos b ≡ a ⊖ b
-difference a b = simp diff (⊖-eq _ _ _ _ (omega arith))
-
-small : (a b : ℕ) → a < 2 ^ 62 → b < 2 ^ 62 → mag (a ⊖ b) < 2 ^ 63
-small a b h k = ⊖-ind (λ z. mag z < 2 ^ 63) a b (λ n e. omega arith) (λ n e. omega arith)
-
-wide : (a b : ℕ) → a < 2 ^ 62 → b < 2 ^ 62 → to_z w64 a -ℤ to_z w64 b ≡ pos a -ℤ pos b
-wide a b h k = ap₂ ◌-ℤ◌ (to_z_pos w64 {n = a} (omega arith)) (to_z_pos w64 {n = b} (omega arith))
-
-pub minus_fits : (a b : ℕ) → a < 2 ^ 62 → b < 2 ^ 62 → SFits w64 (to_z w64 a -ℤ to_z w64 b)
-minus_fits a b h k = rw (wide a b h k, difference a b) (record { sfits = small a b h k })
-
-pub minus_is : (a b : ℕ) → a < 2 ^ 62 → b < 2 ^ 62 → to_z w64 (of_z w64 (to_z w64 a -ℤ to_z w64 b)) ≡ pos a -ℤ pos b
-minus_is a b h k = to_z-of_z (minus_fits a b h k) ∙ wide a b h k
 
 module _ (p : PreparedBasis) (r : Ready p) (a : ℕ) (s : ValueCarry) (es : s ≡ init_of (basis_in p) a) (H D rest lost : ℕ)
     (eH : H ≡ bound_of p.drop_bits) (eD : D ≡ 2 ^ p.drop_bits) (er : rest ≡ (s.value + H) % D)

@@ -36,6 +36,7 @@ pub fn drop_bits(bits: u32, log: u32, levels: usize) -> u32
 }
 
 // 2^n as a word: 0 from 2^32 on.
+#[tactic(auto, using(crate::proofs::Getters::power_over))]
 pub fn power_word(n: u64) -> u32
     ensures { result ≡ 2 ^ n % 2 ^ 32 }
 {
@@ -51,6 +52,7 @@ pub(crate) fn power(n: u32) -> u64
 }
 
 // H: 2^(d−1), or 0 when d = 0.
+#[tactic(auto, using(crate::proofs::Constants::bound_none, crate::proofs::Constants::bound_some))]
 pub fn error_bound(d: u32) -> u32
     requires { d ≤ 32 }
     ensures { result ≡ bound_of d }

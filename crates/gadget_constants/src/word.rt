@@ -16,6 +16,7 @@ use primus_reduce::Modulus;
 #[derive(Clone, Copy)]
 pub struct ValueCarry {
     pub value: u32,
+    // Stays: a digit of the walk, no flag of the value beside it.
     pub carry: bool,
 }
 
@@ -27,6 +28,7 @@ pub struct Reading {
 }
 
 // The highest dropped bit. A word has none above its 32.
+#[tactic(auto, using(crate::proofs::Constants::carry_none, crate::proofs::Constants::carry_some, crate::proofs::Constants::carry_beyond))]
 fn carry_in(v: u32, d: u32) -> bool
     ensures { result ≡ (carry_in d v == 1) }
 {
@@ -98,6 +100,7 @@ fn lifted_by(a: u32, threshold: u32, q: u64) -> u64
 }
 
 // ε is the dropped part of the adjusted word plus H, less H; the reading is a' − ε.
+#[tactic(auto, using(crate::proofs::Constants::dropped_most))]
 pub fn read(p: PreparedBasis, a: u32) -> Reading
     requires { Ready p × (a < size_of p.modulus) }
     ensures { result ≡ reading_of (basis_in p) a }

@@ -11,6 +11,7 @@ ghost use Rattle.gadget_digits.specs.Column.{Column};
 #[derive(Clone, Copy)]
 pub struct SignedDecomposer {
     pub value: u32,
+    // Stays: a digit of the walk, no flag of the value beside it.
     pub carry: bool,
     pub log_basis: u32,
     pub modulus_minus_basis: u32,
@@ -20,6 +21,7 @@ pub struct SignedDecomposer {
 #[derive(Clone, Copy)]
 pub struct Step {
     pub digit: u32,
+    // Stays: a digit of the walk, no flag of the value beside it.
     pub carry: bool,
     pub next: SignedDecomposer,
 }
@@ -52,6 +54,7 @@ fn window(x: u32, log: u32, carry: bool) -> u64
 impl SignedDecomposer {
     // One level: a window below B/2 is its digit. From B/2 on it stands for B less, stored as q − B more,
     // with a carry; at B the digit is 0.
+    #[tactic(auto, using(crate::proofs::Steps::step_small, crate::proofs::Steps::step_top, crate::proofs::Steps::step_large))]
     pub fn step(self) -> Step
         ensures { result ≡ step_of self }
     {
@@ -87,6 +90,8 @@ impl SignedDecomposer {
 }
 
 // Writes the digits of one word at place i of each of the `levels` runs of `count` words.
+// Stays: `levels` and `count` beside the slice: its length is their product alone.
+#[tactic(auto, using(crate::proofs::Columns::after_none, crate::proofs::Columns::column_none))]
 pub fn write_column(out: &mut [u32], start: SignedDecomposer, levels: usize, count: usize, i: usize)
     requires { (length out.old ≡ levels * count) × (i < count) }
     ensures { Column start levels count i out.old out.new }

@@ -174,7 +174,7 @@ impl LweTag {
     }
 
     // 2t × tally + t < q. Refuses by 2, 7, 8, 17.
-    #[tactic(auto, using(check_order::proofs::Answers::refused, check_order::proofs::Answers::served))]
+    #[tactic(auto, using(check_order::proofs::Answers::served))]
     pub fn is_good(self, modulus: Modulus, plaintext_modulus: u32) -> Result<bool, Refusal>
         ensures { result ≡ mark_answer self modulus plaintext_modulus }
     {

@@ -70,6 +70,7 @@ fn messages_refused(coding: Coding, t: u32, input: &[u32]) -> bool
     }
 }
 
+#[tactic(auto, using(scheme::proofs::InPlace::filled_end, crate::proofs::Laws::message_at))]
 fn write_words(coding: Coding, moduli: Moduli, input: &[u32], output: &mut [u32])
     requires { (messages_fault coding moduli.t input.now ≡ false) × (length output.old ≡ length input.now) }
     ensures { output.new ≡ coded coding moduli.t moduli.modulus input.now output.old }
@@ -79,6 +80,7 @@ fn write_words(coding: Coding, moduli: Moduli, input: &[u32], output: &mut [u32]
     }
 }
 
+#[tactic(auto, using(scheme::proofs::InPlace::filled_end))]
 fn replace_words(coding: Coding, moduli: Moduli, values: &mut [u32])
     requires { messages_fault coding moduli.t values.old ≡ false }
     ensures { values.new ≡ coded coding moduli.t moduli.modulus values.old values.old }
@@ -146,6 +148,7 @@ impl RoundedCodec {
     }
 
     // The word, or 0 where it is refused.
+    // Stays: 0 is no refusal's number: the calls that use it have judged, and would only unwrap an Option.
     pub(crate) fn value_or_zero(self, coding: Coding, x: u32) -> u32
         ensures { result ≡ or_zero (coded_answer coding self.plaintext_modulus self.ciphertext_modulus x 0) }
     {

@@ -2,11 +2,8 @@ use Prim.Native.Nat.{◌<◌, ◌*◌, ◌+◌}
 use mathlib.Core.Path.{ap, ◌∙◌}
 use native.Mathlib.Omega.{arith}
 use lib.ListN.{length}
-use Rattle.gadget_digits.proofs.Columns.{place_below, column_none, column_next, after_none, after_next}
+use Rattle.gadget_digits.proofs.Columns.{place_below, column_next, after_next}
 use Rattle.gadget_digits.proofs.write_column.Goals as goal
-
-pub loop-j-init : goal.loop-j-init
-loop-j-init c = (after_none c.args.start, column_none c.args.start c.args.count c.args.i c.args.out.now)
 
 pub loop-j-preserved : goal.loop-j-preserved
 loop-j-preserved c =

@@ -1,15 +1,11 @@
-use Rattle.std.proofs.Common.{rules, arith, ◌≡◌}
-use Rattle.std.proofs.lemmas.Grind.{common_steps}
-use Rattle.scheme.specs.Checks.{refusal}
-use Rattle.check_order.specs.Answer.{number_of}
-use Rattle.check_order.proofs.Answers.{first_size, first_value}
+use Rattle.std.proofs.Common.{rules}
+use Rattle.check_order.proofs.Answers.{first_size, first_value, handed_on}
 use Rattle.lwe_tag.specs.Answers.{mark_rows}
 use Rattle.lwe_tag.proofs.mark_refusal.Goals as goal
 
 pub returns-in_err-judge : goal.returns-in_err-judge
 returns-in_err-judge c =
-    let told : number_of c.in_err-judge.field-0.0 ≡ refusal (mark_rows c.args.tag c.args.modulus c.args.t) = first_size _ _ _ c.in_err-judge.ensures (search rules) in
-    grind (arith, common_steps)
+    rw (handed_on _ c.from_residual.ensures.1) (first_size (mark_rows c.args.tag c.args.modulus c.args.t) _ _ c.in_err-judge.ensures (search rules))
 
 pub returns : goal.returns
 returns c =

@@ -28,6 +28,7 @@ pub struct ApproxSignedBasis {
 
 impl ApproxSignedBasis {
     // Refuses by 1, 2, 3, 4, 5.
+    #[tactic(auto, using(check_order::proofs::Answers::served))]
     pub fn try_new(
         modulus: Modulus,
         log_basis: DecompositionBaseLog,
@@ -41,6 +42,7 @@ impl ApproxSignedBasis {
     }
 
     // Any numbers, as a caller gives them, levels 0 left open: the calls judge them by 1 to 3 and 5.
+    // Stays: a name of its own, no From: beside `try_new` that would be read as the judged way.
     pub fn given(modulus: Modulus, base_log: u32, levels: u32) -> ApproxSignedBasis
         ensures { result ≡ basis_with modulus base_log levels }
     {
@@ -107,6 +109,7 @@ impl ApproxSignedBasis {
     }
 
     // d
+    #[tactic(auto, using(scheme::proofs::Modulus::bits_most), unfolding(scheme::specs::Basis::dropped))]
     pub fn drop_bits(self) -> u32
         ensures { (result ≡ dropped (basis self)) × (result ≤ 32) }
     {
@@ -123,6 +126,7 @@ impl ApproxSignedBasis {
     }
 
     // The weights 2^d × B^j for j below L, as words; 0 above.
+    #[tactic(auto, using(crate::proofs::Getters::weights_are))]
     pub fn scalars(self) -> [u32; 16]
         ensures { result ≡ tabulate 16 (weight_word self) }
     {
@@ -132,6 +136,7 @@ impl ApproxSignedBasis {
     }
 
     // T. Refuses by 1 to 3, 5.
+    #[tactic(auto, using(check_order::proofs::Answers::served))]
     pub fn threshold(self) -> Result<u32, Refusal>
         ensures { result ≡ threshold_answer self }
     {

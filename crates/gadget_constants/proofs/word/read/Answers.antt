@@ -1,19 +1,7 @@
-use Rattle.std.proofs.Common.{◌<◌, refl, ◌∙◌, arith, to_z-of_z, w64, rules}
-use Rattle.gadget_constants.proofs.Constants.{dropped-most, init_ready}
+use Rattle.std.proofs.Common.{refl, ◌∙◌, to_z-of_z, w64, rules}
+use Rattle.gadget_constants.proofs.Constants.{init_ready}
 use Rattle.gadget_constants.proofs.Signs.{read_is}
 use Rattle.gadget_constants.proofs.word.read.Goals as goal
-
--- no goal for rem-rest : tie.Need-nonzero-rem-rest
-
-pub error_bound-bound-requires : goal.error_bound-bound-requires
-error_bound-bound-requires c =
-    let few : c.args.p.drop_bits < 32 = dropped-most c.args.p c.requires.0 c.args.a c.requires.1 in
-    omega (arith, few)
-
-pub power-requires : goal.power-requires
-power-requires c =
-    let few : c.args.p.drop_bits < 32 = dropped-most c.args.p c.requires.0 c.args.a c.requires.1 in
-    omega (arith, few)
 
 pub returns : goal.returns
 returns c =

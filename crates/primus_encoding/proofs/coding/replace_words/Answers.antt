@@ -1,12 +1,12 @@
 use Rattle.std.proofs.Common.{refl, ap, ◌∙◌, arith, get_or}
-use Rattle.scheme.proofs.InPlace.{filled_word, filled_end}
+use Rattle.scheme.proofs.InPlace.{filled_word}
 use Rattle.primus_encoding.specs.Coding.{coded_word, message_fault}
-use Rattle.primus_encoding.proofs.Laws.{message_at, coded-start, coded-next}
+use Rattle.primus_encoding.proofs.Laws.{message_at, coded_start, coded_next}
 use Rattle.primus_encoding.proofs.coding.replace_words.Goals as goal
 
 pub loop-word-init : goal.loop-word-init
 loop-word-init c =
-    coded-start c.args.moduli.t c.args.moduli.modulus c.args.values.now c.args.values.now refl c.args.coding
+    coded_start c.args.moduli.t c.args.moduli.modulus c.args.values.now c.args.values.now refl c.args.coding
 
 pub code_word-requires : goal.code_word-requires
 code_word-requires c =
@@ -15,8 +15,5 @@ code_word-requires c =
 
 pub loop-word-preserved : goal.loop-word-preserved
 loop-word-preserved c =
-    coded-next c.args.moduli.t c.args.moduli.modulus c.args.values.now c.args.values.now refl c.args.coding _ c.loop-word.word-index c.loop-word.invariant (omega arith) _
+    coded_next c.args.moduli.t c.args.moduli.modulus c.args.values.now c.args.values.now refl c.args.coding _ c.loop-word.word-index c.loop-word.invariant (omega arith) _
     (c.code_word.ensures ∙ ap (λ x. coded_word c.args.coding c.args.moduli.t c.args.moduli.modulus x (get_or c.loop-word.values c.loop-word.word-index 0)) (filled_word _ _ _ _ c.loop-word.invariant (omega arith)))
-
-pub returns : goal.returns
-returns c = filled_end _ _ _ _ c.loop-word.invariant (omega arith)

@@ -1,14 +1,12 @@
-use Rattle.std.proofs.Common.{arith, ap, ◌∙◌}
-use Rattle.std.proofs.lemmas.Grind.{common_steps}
-use Rattle.check_order.proofs.Answers.{refused, served}
+use Rattle.std.proofs.Common.{ap, ◌∙◌}
+use Rattle.check_order.proofs.Answers.{refused, served, handed_on}
 use Rattle.gadget_constants.specs.Prepared.{basis_in}
 use Rattle.gadget_constants.specs.Word.{reading_of}
-use Rattle.primus_decompose.specs.Answers.{basis}
 use Rattle.primus_decompose.proofs.Answers.{passes}
 use Rattle.primus_decompose.proofs.primitive.basis.ApproxSignedBasis.reading.Goals as goal
 
 pub returns-in_err-word_refusal : goal.returns-in_err-word_refusal
-returns-in_err-word_refusal c = grind (arith, common_steps, refused _ (reading_of (basis c.args.self) c.args.value) _ c.in_err-word_refusal.ensures)
+returns-in_err-word_refusal c = rw (handed_on _ c.from_residual.ensures.1) (refused _ _ _ c.in_err-word_refusal.ensures)
 
 pub prepared-requires : goal.prepared-requires
 prepared-requires c = (passes c.args.self c.args.value c.in_ok-word_refusal.ensures).judged

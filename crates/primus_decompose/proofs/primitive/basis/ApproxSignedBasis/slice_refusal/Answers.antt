@@ -1,15 +1,11 @@
-use Rattle.std.proofs.Common.{rules, arith, ◌≡◌}
-use Rattle.std.proofs.lemmas.Grind.{common_steps}
-use Rattle.scheme.specs.Checks.{refusal}
-use Rattle.check_order.specs.Answer.{number_of}
-use Rattle.check_order.proofs.Answers.{first_size, first_value}
+use Rattle.std.proofs.Common.{rules}
+use Rattle.check_order.proofs.Answers.{first_size, first_value, handed_on}
 use Rattle.primus_decompose.specs.Answers.{slice_rows}
 use Rattle.primus_decompose.proofs.primitive.basis.ApproxSignedBasis.slice_refusal.Goals as goal
 
 pub returns-in_err-judge : goal.returns-in_err-judge
 returns-in_err-judge c =
-    let told : number_of c.in_err-judge.field-0.0 ≡ refusal (slice_rows c.args.self c.args.values.now c.args.room) = first_size _ _ _ c.in_err-judge.ensures (search rules) in
-    grind (arith, common_steps)
+    rw (handed_on _ c.from_residual.ensures.1) (first_size (slice_rows c.args.self c.args.values.now c.args.room) _ _ c.in_err-judge.ensures (search rules))
 
 pub returns : goal.returns
 returns c = first_value (slice_rows c.args.self c.args.values.now c.args.room) _ _ _ c.in_ok-judge.ensures (search rules) c.judge-2.ensures (search rules)
