@@ -4,9 +4,9 @@ ghost use Rattle.primus_lwe_packed.specs.Answers.{EncryptsPacked, TakesPackedPha
 
 use check_order::Refusal;
 use lwe_packed_refusals::{packed_phase_refusal, packed_refusal};
-use lwe_packing::Packing;
 use lwe_parameters::{LweEncryptionParameters, LwePhaseParameters};
 use lwe_tag::LweTag;
+use primus_reduce::Ring;
 
 // n mask words, then a body for each plaintext; no tally. Refuses by 2, 6, 9, 10, 11, 12, 13, 14, 15.
 pub fn encrypt_encoded_packed(
@@ -21,16 +21,12 @@ pub fn encrypt_encoded_packed(
         plaintexts.now out.old result out.new }
 {
     packed_refusal(params, secret, mask, errors, plaintexts, out.len())?;
-    let packing = Packing::Plaintexts;
-    lwe_packing::write_packed(
-        out,
-        packing,
-        mask,
-        secret,
-        errors,
-        plaintexts,
-        params.modulus,
-    );
+    let ring = Ring {
+        modulus: params.modulus,
+    };
+    let (_, bodies) = out.split_at_mut(mask.len());
+    bodies.copy_from_slice(plaintexts);
+    lwe_packing::write_packed(out, mask, secret, errors, ring);
     Ok(LweTag::none())
 }
 
@@ -45,6 +41,9 @@ pub fn decrypt_phase_packed(
         (code_of result) out.new }
 {
     packed_phase_refusal(params, secret, input, out.len())?;
-    lwe_packing::phases(out, input, secret, params.modulus);
+    let ring = Ring {
+        modulus: params.modulus,
+    };
+    lwe_packing::phases(out, input, secret, ring);
     Ok(())
 }
