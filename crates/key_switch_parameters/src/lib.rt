@@ -21,6 +21,7 @@ pub struct LweKeySwitchingParameters {
 }
 
 // 9, 11: `len` is not n × L entries of m + 1 words. No product: it could overflow.
+#[tactic(auto, using(checks::proofs::Laws::rows_cut, checks::proofs::Laws::rows_whole))]
 fn entries_differ(len: usize, n: usize, levels: usize, m: usize) -> bool
     ensures { result ≡ length_fails len (n * levels * (m + 1)) }
 {
@@ -53,6 +54,7 @@ impl LweKeySwitchingParameters {
     }
 
     // Any numbers, as a caller gives them, levels 0 left open: the calls judge them by 1 to 3, 5, 6.
+    // Stays: a name of its own, no From: beside try_new a From would be read as the judged way.
     pub fn given(
         modulus: Modulus,
         base_log: u32,
