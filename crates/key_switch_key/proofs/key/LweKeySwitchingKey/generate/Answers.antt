@@ -1,13 +1,10 @@
 use Rattle.std.proofs.Common.{sym}
-use Rattle.std.proofs.lemmas.Result.{err_from_is_err_and}
-use Rattle.check_order.proofs.Answers.{unwritten}
+use Rattle.check_order.proofs.Answers.{unwritten, handed_on}
 use Rattle.key_switch_entries.proofs.Entries.{generable}
 use Rattle.key_switch_key.proofs.key.LweKeySwitchingKey.generate.Goals as goal
 
 pub returns-in_err-generate_refusal : goal.returns-in_err-generate_refusal
-returns-in_err-generate_refusal c =
-    let p = err_from_is_err_and c.from_residual.result c.from_residual.ensures.1 in
-    rw (p.1, p.2) (record { writes = unwritten _ c.in_err-generate_refusal.ensures })
+returns-in_err-generate_refusal c = rw (handed_on _ c.from_residual.ensures.1) (record { writes = unwritten _ c.in_err-generate_refusal.ensures })
 
 pub write_entries-requires : goal.write_entries-requires
 write_entries-requires c = generable (record { none = sym c.in_ok-generate_refusal.ensures })
