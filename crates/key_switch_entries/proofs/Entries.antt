@@ -13,7 +13,7 @@ use lib.Pow.{pow_pos, pow_mono}
 use borrow.Author.Tests.{eqb-true, lt-ltb}
 use Rattle.scheme.specs.Numbers.{tabulate, rows_of}
 use Rattle.scheme.specs.Basis.{weight}
-use Rattle.scheme.specs.Lwe.{Key, signed, encrypted}
+use Rattle.scheme.specs.Lwe.{Key, key_length, signed, encrypted}
 use Rattle.scheme.specs.Switch.{generated_entry, generated}
 use Rattle.scheme.specs.Checks.{refusal, length_fails}
 use Rattle.scheme.proofs.Residue.{cong_refl, cong_trans, cong_of_eq, cong_mul}
@@ -55,20 +55,17 @@ unfolding generated_entry
 entered_start {p} {m = m} {masks = masks} {errors = errors} s s' out g =
     filling_start _ (m + 1) (length errors) out g.fits (λ k h. encrypted-row (size_of p.modulus) m (length errors) k masks s' _ _ g.masked h)
 
+pub q_pos : {p : PreparedBasis} → Ready p → 0 < size_of p.modulus
+q_pos {p} r = omega (arith, r.sound.accepted.fits, pow_pos p.log_basis)
+
 module _ {p : PreparedBasis} {weights : List ℕ} {m : ℕ} {masks : List ℕ} {errors : List ℤ} {room : ℕ} (g : Entering p weights m masks errors room) where
-  q_pos : 0 < size_of p.modulus
-  q_pos = omega (arith, g.ready.sound.accepted.fits, pow_pos p.log_basis)
-
-  pub levels-some : 0 < p.level_count
+  levels-some : 0 < p.level_count
   levels-some = g.ready.sound.accepted.some_level
-
-  pub level_in : (k : ℕ) → k % p.level_count < 16
-  level_in k = (g.weighted (k % p.level_count) (mod-lt k levels-some)).0
 
   module _ (s s' : ℕ → ℤ) {out₀ out : List ℕ} {k : ℕ} (f : Entered p m s s' errors masks out₀ out k) (h : k < length errors) where
     -- what the encryption of entry k asks
-    pub row_asks : (0 < size_of p.modulus) × (k * m + m ≤ length masks) × (k * (m + 1) + (m + 1) ≤ length out)
-    row_asks = (q_pos, omega (arith, g.masked, row_within m (length errors) k h), filling_room f h)
+    pub row_asks : (k * m + m ≤ length masks) × (k * (m + 1) + (m + 1) ≤ length out)
+    row_asks = (omega (arith, g.masked, row_within m (length errors) k h), filling_room f h)
 
     -- the words w and v stand for s i and for the plaintext
     pub entered_on : {w v : ℕ} → w ≡ modulo (size_of p.modulus) (s (k / p.level_count)) → v ≡ modulo (size_of p.modulus) (pos w *ℤ pos (get_or weights (k % p.level_count) 0))
@@ -79,10 +76,10 @@ module _ {p : PreparedBasis} {weights : List ℕ} {m : ℕ} {masks : List ℕ} {
         filling_next f h out'
         (e
         ∙ ap (λ x. replaced out (k * (m + 1)) (m + 1) x)
-        (encrypted_cong (size_of p.modulus) m q_pos (take m (drop (k * m) masks)) s' s' (signed errors k) (signed errors k) (pos v) (s (k / p.level_count) *ℤ pos (weight (basis_in p) (k % p.level_count)))
+        (encrypted_cong (size_of p.modulus) m (q_pos g.ready) (take m (drop (k * m) masks)) s' s' (signed errors k) (signed errors k) (pos v) (s (k / p.level_count) *ℤ pos (weight (basis_in p) (k % p.level_count)))
         (λ i u. cong_refl (size_of p.modulus) (s' i)) (cong_refl (size_of p.modulus) (signed errors k))
-        (cong_trans (modulo_stands q_pos (pos w *ℤ pos (get_or weights (k % p.level_count) 0)) ev)
-        (cong_mul (modulo_stands q_pos (s (k / p.level_count)) ew) (cong_of_eq (size_of p.modulus) (ap pos (g.weighted (k % p.level_count) (mod-lt k levels-some)).1))))))
+        (cong_trans (modulo_stands (q_pos g.ready) (pos w *ℤ pos (get_or weights (k % p.level_count) 0)) ev)
+        (cong_mul (modulo_stands (q_pos g.ready) (s (k / p.level_count)) ew) (cong_of_eq (size_of p.modulus) (ap pos (g.weighted (k % p.level_count) (mod-lt k levels-some)).1))))))
 
 -- ---- 12: the masks counted by the errors
 
@@ -112,35 +109,36 @@ weights_are b {p} ep r e j h =
     below = omega (arith, weight-below (basis_in p) r.sound.accepted j h, r.sound.accepted.covered, pow_mono {i = (basis_in p).bits} {j = 32} r.sound.bits-within)
 
 -- what the loop asks, with the numbers at hand; and that it writes the key of the parameters
-module _ {P : LweKeySwitchingParameters} {p : PreparedBasis} {masks : List ℕ} {errors : List ℤ} {room : ℕ} (g : Generable P masks errors room)
-    (r : Ready p × (p ≡ prepared_by P.basis)) {m : ℕ} (em : m ≡ m_in P) where
-  pub entering : {weights : List ℕ} → weights ≡ tabulate 16 (weight_word P.basis) → Entering p weights m masks errors room
+module _ {P : LweKeySwitchingParameters} {p : PreparedBasis} {output masks : List ℕ} {errors : List ℤ} {room : ℕ} (g : Generable P output masks errors room)
+    (r : Ready p × (p ≡ prepared_by P.basis)) where
+  pub entering : {weights : List ℕ} → weights ≡ tabulate 16 (weight_word P.basis) → Entering p weights (length output) masks errors room
   entering ew =
-      rw em (record {
+      record {
         ready = r.0;
         weighted = weights_are P.basis r.1 r.0 ew;
-        fits = g.fits ∙ ap (λ k. k * (m_in P + 1)) (sym g.errored);
-        masked = g.masked ∙ ap (λ k. k * m_in P) (sym g.errored);
-      })
+        fits = g.fits ∙ ap₂ (λ (k m : ℕ). k * (m + 1)) (sym g.errored) (sym g.keyed);
+        masked = g.masked ∙ ap₂ ◌*◌ (sym g.errored) (sym g.keyed);
+      }
 
-  pub entered_end : (s s' : ℕ → ℤ) {out₀ out : List ℕ} {k : ℕ} → Entered p m s s' errors masks out₀ out k → length errors ≤ k
+  pub entered_end : (s s' : ℕ → ℤ) {out₀ out : List ℕ} {k : ℕ} → Entered p (length output) s s' errors masks out₀ out k → length errors ≤ k
       → out ≡ generated (basis P.basis) (n_in P) (m_in P) s s' (signed errors) masks
   unfolding generated
   entered_end s s' f h =
-      filling_end f h ∙ ap (λ k. rows_of k (generated_entry (basis_in p) m s s' (signed errors) masks)) g.errored
-      ∙ ap₂ (λ x m. rows_of (n_in P * levels_in P) (generated_entry (basis_in x) m s s' (signed errors) masks)) r.1 em
+      filling_end f h ∙ ap (λ k. rows_of k (generated_entry (basis_in p) (length output) s s' (signed errors) masks)) g.errored
+      ∙ ap₂ (λ x m. rows_of (n_in P * levels_in P) (generated_entry (basis_in x) m s s' (signed errors) masks)) r.1 g.keyed
 
 -- no number applies
 pub record Unrefused (P : LweKeySwitchingParameters) (E : ℕ) (key : Key) (s' masks : List ℕ) (errors : List ℤ) (room : ℕ) : Type 0 where
   pub none : refusal (generate_rows P E key s' masks errors room) ≡ 0
 
 pub generable : {P : LweKeySwitchingParameters} {E : ℕ} {key : Key} {s' masks : List ℕ} {errors : List ℤ} {room : ℕ}
-    → Unrefused P E key s' masks errors room → Generable P masks errors room
+    → Unrefused P E key s' masks errors room → Generable P s' masks errors room
 generable {P} {E} {key} {s'} {masks} {errors} {room} u =
     let no = passed (generate_rows P E key s' masks errors room) u.none in
     let twelve = neither (length_fails (length masks) (n_in P * levels_in P * m_in P)) (length_fails (length errors) (n_in P * levels_in P)) (no 12 tt) in
     record {
       accepted = (judged P _ u.none).accepted;
+      keyed = length_ok _ _ (neither (length_fails (key_length key) (n_in P)) (length_fails (length s') (m_in P)) (no 9 tt)).1;
       fits = length_ok _ _ (no 11 tt);
       masked = length_ok _ _ twelve.0;
       errored = length_ok _ _ twelve.1;

@@ -15,6 +15,7 @@ use check_order::{Refusal, Values};
 use gadget_constants::PreparedBasis;
 use key_switch_parameters::LweKeySwitchingParameters;
 use lwe_secret_key::LweSecretKeyRef;
+use primus_reduce::Ring;
 
 // 9: the input key does not have n numbers, or the output key not m.
 fn keys_differ(params: LweKeySwitchingParameters, key: LweSecretKeyRef, output_key: usize) -> bool
@@ -101,13 +102,13 @@ pub fn write_entries(
     masks: &[u32],
     errors: &[i32],
 )
-    requires { Generable params masks.now errors.now (length out.old) }
+    requires { Generable params output_key.now masks.now errors.now (length out.old) }
     ensures { out.new ≡ generated_for params (key_of key.entry)
         output_key.now errors.now masks.now }
 {
     let p = prepared(params);
     let modulus = p.modulus;
-    let m = params.output_dimension.get();
+    let ring = Ring { modulus };
     let weights = params.basis.scalars();
     let output = LweSecretKeyRef::Encoded(output_key);
     for k in 0..errors.len() {
@@ -115,6 +116,6 @@ pub fn write_entries(
         let j = k % p.level_count;
         let secret = key.residue(i, modulus);
         let plaintext = modulus.reduce_mul(secret, weights[j]);
-        output.encrypt_row(out, masks, m, errors, k, plaintext, modulus);
+        output.encrypt_row(out, masks, errors, k, plaintext, ring);
     }
 }
