@@ -18,7 +18,7 @@ use Rattle.scheme.specs.Switch.{generated_entry, generated}
 use Rattle.scheme.specs.Checks.{refusal, length_fails}
 use Rattle.scheme.proofs.Residue.{cong_refl, cong_trans, cong_of_eq, cong_mul}
 use Rattle.scheme.proofs.Lists.{get_d_tabulate}
-use Rattle.scheme.proofs.Rows.{Filling, filling_start, filling_next, filling_room, filling_end, row_within}
+use Rattle.scheme.proofs.Rows.{Filling, filling_start, filling_next, filling_end}
 use Rattle.scheme.proofs.Reading.{weight-below}
 use Rattle.scheme.proofs.Switch.{encrypted_cong}
 use Rattle.scheme.proofs.Public.{encrypted-row}
@@ -63,10 +63,6 @@ module _ {p : PreparedBasis} {weights : List ℕ} {m : ℕ} {masks : List ℕ} {
   levels-some = g.ready.sound.accepted.some_level
 
   module _ (s s' : ℕ → ℤ) {out₀ out : List ℕ} {k : ℕ} (f : Entered p m s s' errors masks out₀ out k) (h : k < length errors) where
-    -- what the encryption of entry k asks
-    pub row_asks : (k * m + m ≤ length masks) × (k * (m + 1) + (m + 1) ≤ length out)
-    row_asks = (omega (arith, g.masked, row_within m (length errors) k h), filling_room f h)
-
     -- the words w and v stand for s i and for the plaintext
     pub entered_on : {w v : ℕ} → w ≡ modulo (size_of p.modulus) (s (k / p.level_count)) → v ≡ modulo (size_of p.modulus) (pos w *ℤ pos (get_or weights (k % p.level_count) 0))
         → {out' : List ℕ} → out' ≡ replaced out (k * (m + 1)) (m + 1) (encrypted (size_of p.modulus) m (take m (drop (k * m) masks)) s' (get_or errors k (pos 0)) (pos v))

@@ -13,13 +13,7 @@ use primus_reduce::{Factor, Ring};
 use std::cmp::Ordering;
 
 // An encryption of 0 for each of n errors, row i with mask i and error i.
-pub fn write_zeros(
-    out: &mut [u32],
-    key: LweSecretKeyRef,
-    masks: &[u32],
-    errors: &[i32],
-    ring: Ring,
-)
+pub fn write_zeros(out: &mut [u32], key: LweSecretKeyRef, masks: &[u32], errors: &[i32], ring: Ring)
     requires { let n = length errors.now in
         (key_length (key_of key) ≡ n) × (length masks.now ≡ n * n) × (length out.old ≡ n * (n + 1)) }
     ensures { out.new ≡ public_key (size_of ring.modulus) (length errors.now) masks.now

@@ -1,5 +1,5 @@
 -- What each call on a batch promises. Masks and errors are lent in order of the rows.
-use Rattle.std.specs.Prelude.{List, ◌≡◌, ℕ, ◌+◌, ◌*◌, ◌/◌, ℤ, length, Result}
+use Rattle.std.specs.Prelude.{List, ℕ, ◌+◌, ◌/◌, ℤ, length, Result}
 use Rattle.scheme.specs.Numbers.{tabulate}
 use Rattle.scheme.specs.Lwe.{Key, secret_of, signed, encrypted_rows, phase_of, row_of}
 use Rattle.scheme.specs.Codec.{decode}

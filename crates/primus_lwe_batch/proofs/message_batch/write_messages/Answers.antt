@@ -1,8 +1,3 @@
-use native.Mathlib.Omega.{arith}
-use lib.ListN.{length}
-use Rattle.scheme.specs.Lwe.{words, signed}
-use Rattle.primus_reduce.specs.Ring.{size_of}
-use Rattle.primus_lwe.specs.Answers.{encodings}
 use Rattle.primus_lwe.proofs.Laws.{positive}
 use Rattle.primus_lwe.proofs.Coded.{encoded_at}
 use Rattle.lwe_secret_key.proofs.Runs.{rows_start, rows_more, rows_done}

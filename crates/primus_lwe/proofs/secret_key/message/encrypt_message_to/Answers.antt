@@ -19,5 +19,5 @@ pub returns : goal.returns
 returns c =
     let no = passed _ (sym c.in_ok-message_refusal.ensures) in
     let plain =
-        encoded-is c.args.params (record { modulus_ok = no 2 tt; plaintext_ok = no 7 tt; small_ok = no 8 tt }) c.args.embedding c.args.message (no 16 tt) c.encode_or_zero-plaintext.ensures in
+    encoded-is c.args.params (record { modulus_ok = no 2 tt; plaintext_ok = no 7 tt; small_ok = no 8 tt }) c.args.embedding c.args.message (no 16 tt) c.encode_or_zero-plaintext.ensures in
     record { writes = done c.in_ok-message_refusal.ensures (rw c.from.ensures at c.with_tally.ensures) (rw (mask_ok (length c.args.mask.now) _ _ (no 12 tt), plain) at c.encrypt_to.ensures) }

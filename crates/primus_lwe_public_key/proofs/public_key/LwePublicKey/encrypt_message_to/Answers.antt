@@ -22,5 +22,5 @@ pub returns : goal.returns
 returns c =
     let no = passed _ (sym c.in_ok-public_message_refusal.ensures) in
     let plain =
-        encoded-is c.args.params (record { modulus_ok = no 2 tt; plaintext_ok = no 7 tt; small_ok = no 8 tt }) c.args.embedding c.args.message (no 16 tt) c.encode_or_zero-plaintext.ensures in
+    encoded-is c.args.params (record { modulus_ok = no 2 tt; plaintext_ok = no 7 tt; small_ok = no 8 tt }) c.args.embedding c.args.message (no 16 tt) c.encode_or_zero-plaintext.ensures in
     record { writes = done c.in_ok-public_message_refusal.ensures c.none.ensures (rw (lent_ok (length c.args.coefficients.now) _ _ _ (no 12 tt), plain) at c.write_public.ensures) }
