@@ -33,7 +33,7 @@ use Rattle.primus_lwe_batch.specs.Answers.{EncryptsBatch}
 use Rattle.primus_lwe_batch.proofs.Laws.{batchable}
 use Rattle.lwe_packed_refusals.specs.Rows.{packed_rows, packed_message_rows}
 use Rattle.primus_lwe_packed.specs.Answers.{EncryptsPacked, EncryptsPackedMessages}
-use Rattle.primus_lwe_packed.proofs.Laws.{packable, packable_messages}
+use Rattle.primus_lwe_packed.proofs.Laws.{pack_ok}
 use Rattle.primus_lwe_public_key.specs.Answers.{generate_rows, GeneratesPublicKey, EncryptsPublic, EncryptsPublicMessage}
 use Rattle.primus_lwe_public_key.proofs.Laws.{generable}
 use Rattle.theorems.specs.Phases.{HasPhase, HasPackedPhase, public_phase}
@@ -96,8 +96,9 @@ module _ (P : LweEncryptionParameters) (s a : List ℕ) (es : List ℤ) (ps : Li
       → HasPackedPhase (size_of P.modulus) P.dimension.0
       (packed (size_of P.modulus) P.dimension.0 (length ps) a (words s) (signed es) (words ps)) (words s) i (words ps i +ℤ signed es i)
   packed-accepted room e i h =
-      let k = packable P s a es ps room e in
-      phase-packed (size_of P.modulus) k.able.positive P.dimension.0 a (words s) k.each (length ps) (signed es) (words ps) i (omega (arith, k.able.most, k.each)) h
+      let no = passed (packed_rows P s a es ps room) e in
+      let k = pack_ok P.dimension.0 (length s) (length a) (length es) (length ps) room (no 9 tt) (no 10 tt) (no 11 tt) (no 12 tt) in
+      phase-packed (size_of P.modulus) (positive P.modulus (no 2 tt)) P.dimension.0 a (words s) k.each (length ps) (signed es) (words ps) i (omega (arith, k.most, k.each)) h
 
   pub packed-phase : {before after : List ℕ} {tag : LweTag} → EncryptsPacked P s a es ps before (Ok tag) after → (i : ℕ) → i < length ps
       → HasPackedPhase (size_of P.modulus) P.dimension.0 after (words s) i (words ps i +ℤ signed es i)
@@ -108,8 +109,9 @@ module _ (P : LweParameters) (g : PlaintextEmbedding) (s a : List ℕ) (es : Lis
       → HasPackedPhase (size_of P.modulus) P.dimension.0
       (packed (size_of P.modulus) P.dimension.0 (length xs) a (words s) (signed es) (encodings g P xs)) (words s) i (encodings g P xs i +ℤ signed es i)
   packed_message_accepted room e i h =
-      let k = (packable_messages P s a es xs room e).plain in
-      phase-packed (size_of P.modulus) k.able.positive P.dimension.0 a (words s) k.each (length xs) (signed es) (encodings g P xs) i (omega (arith, k.able.most, k.each)) h
+      let no = passed (packed_message_rows P s a es xs room) e in
+      let k = pack_ok P.dimension.0 (length s) (length a) (length es) (length xs) room (no 9 tt) (no 10 tt) (no 11 tt) (no 12 tt) in
+      phase-packed (size_of P.modulus) (positive P.modulus (no 2 tt)) P.dimension.0 a (words s) k.each (length xs) (signed es) (encodings g P xs) i (omega (arith, k.most, k.each)) h
 
   pub packed_message_phase : {before after : List ℕ} {tag : LweTag} → EncryptsPackedMessages P g s a es xs before (Ok tag) after → (i : ℕ) → i < length xs
       → HasPackedPhase (size_of P.modulus) P.dimension.0 after (words s) i (encodings g P xs i +ℤ signed es i)
