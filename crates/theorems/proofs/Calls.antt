@@ -7,15 +7,14 @@
 --     words_fit   words below q are not refused by 14; length_fit: nor an equal length by 9 to 12
 -- Assumes nothing.
 use mathlib.Core.Path.{◌≡◌, refl, sym, ap, ap₂, ◌∙◌}
-use mathlib.Core.Bool.{Bool, true, false, not, ◌&&◌}
+use mathlib.Core.Bool.{true, false, not, ◌&&◌}
 use mathlib.Core.List.{List, [], ◌∷◌}
 use Prim.Native.Nat.{ℕ, suc}
 use native.Mathlib.Omega.{arith}
-use lib.Dec.{eqb, ltb}
-use borrow.Author.Tests.{eq-eqb, eqb-true, lt-ltb}
+use lib.Dec.{ltb}
+use borrow.Author.Tests.{eq-eqb, lt-ltb}
 use Rattle.std.proofs.Common.{Result, Ok}
 use Rattle.check_order.specs.declared.refusal.Refusal.{Refusal}
-use Rattle.scheme.specs.Numbers.{pick}
 use Rattle.scheme.specs.Switch.{Below}
 use Rattle.scheme.specs.Checks.{Check, refusal, all_of, words_fail, length_fails, Writes}
 use Rattle.lwe_tag.specs.declared.LweTag.{LweTag}

@@ -113,8 +113,8 @@ module _ (P : LweKeySwitchingParameters) (key X Y : List ℕ) where
   whole-accepted overX overY ex ey =
       let q = q_in P in
       let no = passed (batch_rows P key Y overY) ey in
-      let x = batch_passed P key X overX ex in
-      let y = batch_passed P key Y overY ey in
+      let x = batch_passed {P = P} {key = key} {input = X} {room = overX} (sym ex) in
+      let y = batch_passed {P = P} {key = key} {input = Y} {room = overY} (sym ey) in
       let c = counted (n_in P) (length X / (n_in P + 1)) X Y x.inputs in
       inputs-accepted P key Y _ _ ey key (X ++ Y) _ _ (no 9 tt) (neither (words_fail q key) (words_fail q Y) (no 14 tt)).0
       (ap (λ k. not (eqb k 0)) c.1 ∙ no 10 tt)
@@ -151,7 +151,7 @@ module _ (P : LweKeySwitchingParameters) (key X Y : List ℕ) where
         let whole = settled_tag w.writes (rw l (whole-accepted (length overX) (length overY) first.0 second.0)) in (
           whole.0,
           whole.1
-              ∙ outputs_joined (length X / (n_in P + 1)) (batch_passed P key X (length overX) first.0).inputs
+              ∙ outputs_joined (length X / (n_in P + 1)) (batch_passed {P = P} {key = key} {input = X} {room = length overX} (sym first.0)).inputs
               ∙ ap₂ ◌++◌ (sym first.1) (sym second.1),
         )
 
@@ -163,7 +163,7 @@ module _ (P : LweKeySwitchingParameters) (key X : List ℕ) where
       let n = n_in P in
       let no = passed (batch_rows P key X room) e in
       let (foreign, words) = neither (words_fail (q_in P) key) (words_fail (q_in P) X) (no 14 tt) in
-      let x = batch_passed P key X room e in
+      let x = batch_passed {P = P} {key = key} {input = X} {room = room} (sym e) in
       inputs-accepted P key X _ _ e key (row_of n X t) _ _ (no 9 tt) foreign (length_fit _ _ (part_length (n + 1) (length X / (n + 1)) X t x.inputs h)) (length_fit (m_in P + 1) _ refl)
       (words_fit (q_in P) _ (part_below (q_in P) (n + 1) X t x.words))
 

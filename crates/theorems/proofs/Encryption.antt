@@ -6,7 +6,7 @@
 --     public_phase_lem                   under a public key that the call wrote; public_message_phase: a message
 -- The laws behind them speak of the definitions, where the call has no refusal.
 -- Assumes nothing.
-use mathlib.Core.Path.{◌≡◌, sym, ap₂, ◌∙◌}
+use mathlib.Core.Path.{◌≡◌}
 use mathlib.Core.List.{List}
 use Prim.Native.Nat.{ℕ, ◌*◌, ◌<◌}
 use native.Mathlib.Omega.{arith}
@@ -14,7 +14,9 @@ use lib.IntN.{ℤ, pos, ◌+ℤ◌}
 use lib.ListN.{length, get_or, take, drop}
 use Rattle.std.proofs.Common.{Ok}
 use Rattle.scheme.specs.Lwe.{Key, secret_of, words, signed, encrypted, encrypted_rows, packed, row_of, public_key, public_encrypted}
-use Rattle.scheme.specs.Checks.{refusal}
+use Rattle.scheme.specs.Checks.{refusal, length_fails}
+use Rattle.scheme.proofs.Checks.{length_ok}
+use Rattle.scheme.proofs.Order.{passed, neither}
 use Rattle.scheme.proofs.Lwe.{phase_fresh, phase-packed}
 use Rattle.scheme.proofs.Public.{row_mask, row-encrypted, phase_public_key}
 use Rattle.primus_reduce.specs.Ring.{size_of}
@@ -26,16 +28,13 @@ use Rattle.lwe_parameters.specs.declared.parameter.LweEncryptionParameters.{LweE
 use Rattle.lwe_parameters.specs.declared.parameter.LweParameters.{LweParameters}
 use Rattle.lwe_refusals.specs.Rows.{encrypt_rows, message_rows}
 use Rattle.primus_lwe.specs.Answers.{encoded, encodings, Encrypts, EncryptsMessage}
-use Rattle.primus_lwe.proofs.Laws.{encryptable}
-use Rattle.primus_lwe.proofs.Coded.{messageable}
+use Rattle.primus_lwe.proofs.Laws.{positive, mask_ok}
 use Rattle.lwe_batch_refusals.specs.Rows.{encrypt_batch_rows}
 use Rattle.primus_lwe_batch.specs.Answers.{EncryptsBatch}
-use Rattle.primus_lwe_batch.proofs.Laws.{batchable}
 use Rattle.lwe_packed_refusals.specs.Rows.{packed_rows, packed_message_rows}
 use Rattle.primus_lwe_packed.specs.Answers.{EncryptsPacked, EncryptsPackedMessages}
 use Rattle.primus_lwe_packed.proofs.Laws.{pack_ok}
 use Rattle.primus_lwe_public_key.specs.Answers.{generate_rows, GeneratesPublicKey, EncryptsPublic, EncryptsPublicMessage}
-use Rattle.primus_lwe_public_key.proofs.Laws.{generable}
 use Rattle.theorems.specs.Phases.{HasPhase, HasPackedPhase, public_phase}
 use Rattle.theorems.proofs.Calls.{wrote, written}
 
@@ -47,8 +46,8 @@ module _ (P : LweEncryptionParameters) (key : Key) (a : List ℕ) (es : List ℤ
       (encrypted (size_of P.modulus) P.dimension.0 a (secret_of key) (get_or es 0 (pos 0)) (pos p)) (secret_of key)
       (pos p +ℤ get_or es 0 (pos 0))
   encrypt_accepted room e =
-      let w = encryptable P key a es p room e in
-      phase_fresh (size_of P.modulus) w.positive P.dimension.0 a (secret_of key) w.each (get_or es 0 (pos 0)) (pos p)
+      let no = passed (encrypt_rows P key a es p room) e in
+      phase_fresh (size_of P.modulus) (positive P.modulus (no 2 tt)) P.dimension.0 a (secret_of key) (mask_ok (length a) (length es) P.dimension.0 (no 12 tt)) (get_or es 0 (pos 0)) (pos p)
 
   pub encrypt_phase : {before after : List ℕ} {tag : LweTag} → Encrypts P key a es p before (Ok tag) after
       → HasPhase (size_of P.modulus) P.dimension.0 after (secret_of key) (pos p +ℤ get_or es 0 (pos 0))
@@ -60,8 +59,8 @@ module _ (P : LweParameters) (g : PlaintextEmbedding) (key : Key) (a : List ℕ)
       (encrypted (size_of P.modulus) P.dimension.0 a (secret_of key) (get_or es 0 (pos 0)) (encoded g P x)) (secret_of key)
       (encoded g P x +ℤ get_or es 0 (pos 0))
   message_accepted room e =
-      let w = (messageable P key a es x room e).plain in
-      phase_fresh (size_of P.modulus) w.positive P.dimension.0 a (secret_of key) w.each (get_or es 0 (pos 0)) (encoded g P x)
+      let no = passed (message_rows P key a es x room) e in
+      phase_fresh (size_of P.modulus) (positive P.modulus (no 2 tt)) P.dimension.0 a (secret_of key) (mask_ok (length a) (length es) P.dimension.0 (no 12 tt)) (get_or es 0 (pos 0)) (encoded g P x)
 
   pub message_phase : {before after : List ℕ} {tag : LweTag} → EncryptsMessage P g key a es x before (Ok tag) after
       → HasPhase (size_of P.modulus) P.dimension.0 after (secret_of key) (encoded g P x +ℤ get_or es 0 (pos 0))
@@ -72,7 +71,9 @@ module _ (P : LweParameters) (g : PlaintextEmbedding) (key : Key) (a : List ℕ)
 module _ (P : LweParameters) (g : PlaintextEmbedding) (key : Key) (masks : List ℕ) (es : List ℤ) (xs : List ℕ) where
   -- the masks of an accepted batch
   pub batch_masks : (room : ℕ) → refusal (encrypt_batch_rows P key masks es xs room) ≡ 0 → (0 < size_of P.modulus) × (length masks ≡ length xs * P.dimension.0)
-  batch_masks room e = let b = batchable P key masks es xs room e in (b.run.positive, b.run.each ∙ ap₂ ◌*◌ (sym b.each) b.key)
+  batch_masks room e =
+      let no = passed (encrypt_batch_rows P key masks es xs room) e in
+      (positive P.modulus (no 2 tt), length_ok _ _ (neither (length_fails (length masks) (length xs * P.dimension.0)) (length_fails (length es) (length xs)) (no 12 tt)).0)
 
   pub batch_accepted : (room : ℕ) → refusal (encrypt_batch_rows P key masks es xs room) ≡ 0 → (i : ℕ) → i < length xs
       → HasPhase (size_of P.modulus) P.dimension.0
@@ -127,8 +128,9 @@ module _ (d : LweDimension) (m : Modulus) (E : ℕ) (key : Key) (masks : List �
       → HasPhase (size_of m) d.0 (public_encrypted (size_of m) d.0 (public_key (size_of m) d.0 masks (secret_of key) (signed es)) f p r) (secret_of key)
       (public_phase d.0 p f (secret_of key) r (signed es))
   public_accepted room e f r p =
-      let k = generable made key masks es room e in
-      phase_public_key (size_of m) k.positive d.0 masks (secret_of key) (signed es) f r p k.each
+      let no = passed (generate_rows made key masks es room) e in
+      let each = length_ok _ _ (neither (length_fails (length masks) (d.0 * d.0)) (length_fails (length es) d.0) (no 12 tt)).0 in
+      phase_public_key (size_of m) (positive m (no 2 tt)) d.0 masks (secret_of key) (signed es) f r p each
 
   module _ {blank pk : List ℕ} (made-it : GeneratesPublicKey (record { dimension = d; modulus = m; error_limit = E }) key masks es blank 0 pk) (fs rs : List ℤ) where
     -- with the key that the call wrote

@@ -88,8 +88,8 @@ module _ (P : LweKeySwitchingParameters) (word : Fits 32 (meant P.basis.modulus)
       → (t u : ℕ) → t < length X / (n_in P + 1) → u < length Y / (n_in P + 1)
       → Demand3 (basis P.basis) (n_in P) (m_in P) s s' e (length X / (n_in P + 1)) X t (length Y / (n_in P + 1)) Y u
   demand_3_accepted s s' e keyX X roomX keyY Y roomY ex ey t u ht hu =
-      let x = batch_passed P keyX X roomX ex in
-      let y = batch_passed P keyY Y roomY ey in
+      let x = batch_passed {P = P} {key = keyX} {input = X} {room = roomX} (sym ex) in
+      let y = batch_passed {P = P} {key = keyY} {input = Y} {room = roomY} (sym ey) in
       demand_3 b (basis-accepted P word _ ex) (n_in P) (m_in P) s s' e (omega (arith, (judged P _ ex).output_some)) (count X) X t (count Y) Y u x.inputs y.inputs x.words y.words ht hu
 
   module _ (E : ℕ) (key : Key) (s' : List ℕ) (errors : List ℤ) {one over k keyX X overX x keyY Y overY y : List ℕ}

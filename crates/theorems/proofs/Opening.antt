@@ -6,18 +6,17 @@
 --     opens_batch        and of the batch, decrypted as one; opens_batch_marked
 -- Assumes nothing.
 use mathlib.Core.Path.{◌≡◌, refl, sym, ap, ◌∙◌}
-use mathlib.Core.Bool.{Bool, true, false, not, ◌||◌}
+use mathlib.Core.Bool.{true, false, not, ◌||◌}
 use mathlib.Core.List.{List}
 use Prim.Native.Nat.{ℕ, ◌+◌, ◌*◌, ◌/◌, ◌%◌, ◌<◌, ◌≤◌}
 use native.Mathlib.Nat.{mul-mod_left, mul-div_cancel}
 use native.Mathlib.Omega.{arith}
-use lib.Dec.{eqb, ltb}
 use lib.IntN.{ℤ, pos, nat_abs, ◌+ℤ◌}
 use lib.ListN.{length, get_or, take, drop}
 use borrow.Author.Tests.{eq-eqb, ne_eqb, ltb-true}
 use Rattle.std.proofs.Common.{Result, Ok}
 use Rattle.check_order.specs.declared.refusal.Refusal.{Refusal}
-use Rattle.scheme.specs.Numbers.{pick, residue, tabulate}
+use Rattle.scheme.specs.Numbers.{residue, tabulate}
 use Rattle.scheme.specs.Lwe.{Key, secret_of, signed, encrypted, encrypted_rows, phase_of, row_of}
 use Rattle.scheme.specs.Codec.{decode}
 use Rattle.scheme.specs.Switch.{Below}
@@ -43,8 +42,8 @@ use Rattle.lwe_parameters.specs.declared.parameter.LweParameters.{LweParameters}
 use Rattle.lwe_parameters.specs.Answers.{phases_of, decryption_of}
 use Rattle.lwe_refusals.specs.Rows.{encrypt_rows, phase_rows, message_rows, decrypt_rows}
 use Rattle.primus_lwe.specs.Answers.{encoded, encodings, Encrypts, TakesPhase, EncryptsMessage, Decrypts}
-use Rattle.primus_lwe.proofs.Laws.{encryptable}
-use Rattle.primus_lwe.proofs.Coded.{messageable, phase-below}
+use Rattle.primus_lwe.proofs.Laws.{positive, mask_ok}
+use Rattle.primus_lwe.proofs.Coded.{phase-below}
 use Rattle.lwe_batch_refusals.specs.Rows.{encrypt_batch_rows, decrypt_batch_rows}
 use Rattle.primus_lwe_batch.specs.Answers.{batch_phase, EncryptsBatch, DecryptsBatch}
 use Rattle.theorems.specs.Phases.{HasPhase}
@@ -87,8 +86,7 @@ module _ (P : LweEncryptionParameters) (key : Key) (a : List ℕ) (es : List ℤ
       let q = size_of P.modulus in
       let no = passed (encrypt_rows P key a es p room) e in
       let (keyed, masked) = neither (key_fails q key) (words_fail q a) (neither (word_fails q p) (words_fail q a || key_fails q key) (no 14 tt)).1 in
-      let w = encryptable P key a es p room e in
-      let f = fresh_fits q P.dimension.0 a (secret_of key) (get_or es 0 (pos 0)) (pos p) w.positive w.each masked in
+      let f = fresh_fits q P.dimension.0 a (secret_of key) (get_or es 0 (pos 0)) (pos p) (positive P.modulus (no 2 tt)) (mask_ok (length a) (length es) P.dimension.0 (no 12 tt)) masked in
       rw (no 2 tt, no 6 tt, no 9 tt, f.0, keyed, f.1)
 
   pub phase-answered : {before after : List ℕ} {tag : LweTag} {answer : Result ℕ Refusal} → Encrypts P key a es p before (Ok tag) after → TakesPhase (phases_of P) key after answer
@@ -97,7 +95,7 @@ module _ (P : LweEncryptionParameters) (key : Key) (a : List ℕ) (es : List ℤ
       let w = written c.writes in
       d.is
       ∙ told (phase_rows (phases_of P) key after) _ (rw w.1 (phase-accepted (length before) w.0))
-      ∙ ap Ok (phase-word (size_of P.modulus) P.dimension.0 after (secret_of key) _ (encryptable P key a es p (length before) w.0).positive (encrypt_phase P key a es p c))
+      ∙ ap Ok (phase-word (size_of P.modulus) P.dimension.0 after (secret_of key) _ (positive P.modulus (passed (encrypt_rows P key a es p (length before)) w.0 2 tt)) (encrypt_phase P key a es p c))
 
 module _ (P : LweParameters) (g : PlaintextEmbedding) (key : Key) (a : List ℕ) (es : List ℤ) (x : ℕ) where
   abbrev ciphertext_of : List ℕ
@@ -109,8 +107,7 @@ module _ (P : LweParameters) (g : PlaintextEmbedding) (key : Key) (a : List ℕ)
       let q = size_of P.modulus in
       let no = passed (message_rows P key a es x room) e in
       let (keyed, masked) = neither (key_fails q key) (words_fail q a) (no 14 tt) in
-      let w = (messageable P key a es x room e).plain in
-      let f = fresh_fits q P.dimension.0 a (secret_of key) (get_or es 0 (pos 0)) (encoded g P x) w.positive w.each masked in
+      let f = fresh_fits q P.dimension.0 a (secret_of key) (get_or es 0 (pos 0)) (encoded g P x) (positive P.modulus (no 2 tt)) (mask_ok (length a) (length es) P.dimension.0 (no 12 tt)) masked in
       rw (no 2 tt, no 6 tt, no 7 tt, no 8 tt, no 9 tt, f.0, keyed, f.1)
 
   -- an accepted error is within ±E
@@ -124,9 +121,9 @@ module _ (P : LweParameters) (g : PlaintextEmbedding) (key : Key) (a : List ℕ)
       → 2 * P.plaintext_modulus * P.error_limit + P.plaintext_modulus < size_of P.modulus
       → decode (size_of P.modulus) P.plaintext_modulus (phase_of (size_of P.modulus) P.dimension.0 ciphertext_of (secret_of key)) ≡ x
   decoded-accepted room e h =
-      let k = messageable P key a es x room e in
-      opens_fresh (size_of P.modulus) k.plain.positive P.dimension.0 a (secret_of key) k.plain.each (meant_embedding g) P.plaintext_modulus x P.error_limit
-      (get_or es 0 (pos 0)) (message_ok _ x k.message) h (within room e)
+      let no = passed (message_rows P key a es x room) e in
+      opens_fresh (size_of P.modulus) (positive P.modulus (no 2 tt)) P.dimension.0 a (secret_of key) (mask_ok (length a) (length es) P.dimension.0 (no 12 tt)) (meant_embedding g) P.plaintext_modulus x P.error_limit
+      (get_or es 0 (pos 0)) (message_ok _ x (no 16 tt)) h (within room e)
 
   pub opens : 2 * P.plaintext_modulus * P.error_limit + P.plaintext_modulus < size_of P.modulus
       → {before after : List ℕ} {tag : LweTag} {answer : Result ℕ Refusal} → EncryptsMessage P g key a es x before (Ok tag) after → Decrypts (decryption_of P) key after answer → answer ≡ Ok x

@@ -88,7 +88,7 @@ module _ (P : LweKeySwitchingParameters) (word : Fits 32 (meant P.basis.modulus)
       → (X : List ℕ) (out : ℕ) → refusal (batch_rows P made X out) ≡ 0 → (t : ℕ) → t < length X / (n_in P + 1)
       → Switched b (n_in P) (m_in P) key s' errors E (row_of (n_in P) X t) (row_of (m_in P) (switched_batch b (n_in P) (m_in P) made (length X / (n_in P + 1)) X) t)
   batch_switched-accepted room e X out f t h =
-      let x = batch_passed P made X out f in
+      let x = batch_passed {P = P} {key = made} {input = X} {room = out} (sym f) in
       rw (batch_row b (n_in P) (m_in P) made (length X / (n_in P + 1)) X t h)
       (switched-accepted room e (row_of (n_in P) X t) (λ i k. row_below (q_in P) (n_in P) (length X / (n_in P + 1)) X t h x.inputs x.words i (omega arith)))
 
@@ -97,8 +97,8 @@ module _ (P : LweKeySwitchingParameters) (word : Fits 32 (meant P.basis.modulus)
     switch_phase {x} {before} d =
         let g = wrote c.writes in
         let w = written d.writes in
-        let o = one_passed P k x (length before) (sym w.0) in
-        rw (w.1, g.1) (switched-accepted (length blank) g.0 x (λ i h. o.1.words i (omega (arith, o.0))))
+        let o = one_passed {P = P} {key = k} {input = x} {room = length before} (sym w.0) in
+        rw (w.1, g.1) (switched-accepted (length blank) g.0 x (λ i h. o.words i (omega (arith, o.inputs))))
 
     pub batch_switch_phase : {X before after : List ℕ} {tag : LweTag} → SwitchesBatch P k X before (Ok tag) after → (t : ℕ) → t < length X / (n_in P + 1)
         → Switched (basis P.basis) (n_in P) (m_in P) key s' errors E (row_of (n_in P) X t) (row_of (m_in P) after t)
