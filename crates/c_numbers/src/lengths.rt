@@ -36,6 +36,7 @@ fn packed_refusal(n: usize, count: usize) -> Result<(), Refusal>
 }
 
 // A ciphertext. Refuses by 6.
+#[tactic(auto, using(check_order::proofs::Answers::served, crate::proofs::Allocated::row_few))]
 pub fn ciphertext_words(n: usize) -> Result<u32, Refusal>
     ensures { result ≡ answer (dimension_rows n) (n + 1) }
 {
@@ -44,6 +45,7 @@ pub fn ciphertext_words(n: usize) -> Result<u32, Refusal>
 }
 
 // A packed ciphertext with `count` bodies. Refuses by 6, 10.
+#[tactic(auto, using(check_order::proofs::Answers::served, crate::proofs::Allocated::packed_few))]
 pub fn packed_words(n: usize, count: usize) -> Result<u32, Refusal>
     ensures { result ≡ answer (packed_rows n count) (n + count) }
 {
@@ -52,6 +54,7 @@ pub fn packed_words(n: usize, count: usize) -> Result<u32, Refusal>
 }
 
 // A public key. Refuses by 6.
+#[tactic(auto, using(check_order::proofs::Answers::served, crate::proofs::Allocated::row_few, crate::proofs::Allocated::square_few))]
 pub fn public_key_words(n: usize) -> Result<u32, Refusal>
     ensures { result ≡ answer (dimension_rows n) (n * (n + 1)) }
 {
@@ -67,6 +70,7 @@ fn switching_refusal(params: LweKeySwitchingParameters) -> Result<(), Refusal>
 }
 
 // A switching key. Refuses by 1 to 3, 5, 6.
+#[tactic(auto, using(check_order::proofs::Answers::served, crate::proofs::Allocated::entries_few, crate::proofs::Allocated::entry_few, crate::proofs::Allocated::key_few))]
 pub fn switching_key_words(params: LweKeySwitchingParameters) -> Result<u32, Refusal>
     ensures { result ≡ answer (parameter_rows params) (key_words params) }
 {

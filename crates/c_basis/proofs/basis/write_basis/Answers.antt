@@ -1,15 +1,12 @@
 use Rattle.std.proofs.Common.{length, sym, ap, ◌∙◌}
-use Rattle.std.proofs.lemmas.Result.{err_from_is_err_and}
 use Rattle.scheme.proofs.Order.{done}
-use Rattle.check_order.proofs.Answers.{unwritten}
+use Rattle.check_order.proofs.Answers.{unwritten, handed_on}
 use Rattle.c_basis.specs.Bases.{constants}
 use Rattle.c_basis.proofs.Outputs.{fits, threshold_given, threshold_is}
 use Rattle.c_basis.proofs.basis.write_basis.Goals as goal
 
 pub returns-in_err-sizes_refusal : goal.returns-in_err-sizes_refusal
-returns-in_err-sizes_refusal c =
-    let p = err_from_is_err_and c.from_residual.result c.from_residual.ensures.1 in
-    rw (p.1, p.2) (record { writes = unwritten _ c.in_err-sizes_refusal.ensures })
+returns-in_err-sizes_refusal c = rw (handed_on _ c.from_residual.ensures.1) (record { writes = unwritten _ c.in_err-sizes_refusal.ensures })
 
 pub returns-in_err-threshold : goal.returns-in_err-threshold
 returns-in_err-threshold c =

@@ -1,22 +1,20 @@
 use Rattle.std.proofs.Common.{rules, length, sym, ap, ap₂, ◌∙◌, [], ◌∷◌, ℤ, w64}
 use mir.Facts.{to_z-of_z}
 use mir.Val.{SFits}
-use Rattle.std.proofs.lemmas.Result.{err_from_is_err_and}
 use Rattle.scheme.proofs.Order.{done}
-use Rattle.check_order.proofs.Answers.{unwritten}
+use Rattle.check_order.proofs.Answers.{unwritten, handed_on}
 use Rattle.gadget_constants.specs.declared.word.Reading.{Reading}
 use Rattle.c_basis.proofs.Outputs.{fits, reading_sized, reading_refused, reading_given}
 use Rattle.c_basis.proofs.basis.write_reading.Goals as goal
 
 pub returns-in_err-sizes_refusal : goal.returns-in_err-sizes_refusal
 returns-in_err-sizes_refusal c =
-    let p = err_from_is_err_and c.from_residual.result c.from_residual.ensures.1 in
-    rw (p.1, p.2) (record { writes = unwritten _ (reading_sized c.args.basis c.args.word _ _ c.in_err-sizes_refusal.ensures) })
+    rw (handed_on _ c.from_residual.ensures.1)
+    (record { writes = unwritten _ (reading_sized c.args.basis c.args.word _ _ c.in_err-sizes_refusal.ensures) })
 
 pub returns-in_err-x : goal.returns-in_err-x
 returns-in_err-x c =
-    let p = err_from_is_err_and c.from_residual-in_err-x.result c.from_residual-in_err-x.ensures.1 in
-    rw (p.1, p.2)
+    rw (handed_on _ c.from_residual-in_err-x.ensures.1)
     (record { writes = unwritten _ (reading_refused c.args.basis c.args.word _ (sym c.in_ok-sizes_refusal.ensures) _ c.in_err-x.ensures) })
 
 pub copy_from_slice-requires : goal.copy_from_slice-requires

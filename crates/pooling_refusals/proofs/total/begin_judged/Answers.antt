@@ -1,17 +1,12 @@
-use Rattle.std.proofs.Common.{rules, arith, ◌≡◌}
-use Rattle.std.proofs.lemmas.Grind.{common_steps}
-use Rattle.scheme.specs.Checks.{refusal}
-use Rattle.check_order.specs.Answer.{number_of}
-use Rattle.check_order.proofs.Answers.{first_size, first_value}
-use Rattle.pooling_refusals.specs.Rows.{begin_rows}
+use Rattle.std.proofs.Common.{rules}
+use Rattle.check_order.proofs.Answers.{first_size, first_value, handed_on}
 use Rattle.pooling_refusals.proofs.Laws.{begin_sized}
 use Rattle.pooling_refusals.proofs.total.begin_judged.Goals as goal
 
 pub returns-in_err-judge : goal.returns-in_err-judge
 returns-in_err-judge c =
-    let told : number_of c.in_err-judge.field-0.0 ≡ refusal (begin_rows c.args.params c.args.h c.args.bytes.now c.args.len c.args.places) =
-    first_size _ _ _ c.in_err-judge.ensures (begin_sized c.args.params c.args.h c.args.bytes.now _ c.args.len c.args.places c.sizes.ensures) in
-    grind (arith, common_steps)
+    rw (handed_on _ c.from_residual.ensures.1)
+    (first_size _ _ _ c.in_err-judge.ensures (begin_sized c.args.params c.args.h c.args.bytes.now _ c.args.len c.args.places c.sizes.ensures))
 
 pub returns : goal.returns
 returns c =
