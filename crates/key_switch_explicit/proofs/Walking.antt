@@ -16,14 +16,11 @@ use Rattle.scheme.proofs.InPlace.{map_at}
 use Rattle.scheme.proofs.Residue.{cong_trans, residue_cong}
 use Rattle.scheme.proofs.Switch.{is_batch}
 use Rattle.primus_reduce.specs.Ring.{size_of}
-use Rattle.gadget_digits.specs.declared.SignedDecomposer.{SignedDecomposer}
 use Rattle.gadget_constants.specs.declared.prepared.PreparedBasis.{PreparedBasis}
-use Rattle.gadget_digits.specs.Column.{step_digit}
 use Rattle.gadget_constants.specs.Prepared.{basis_in}
-use Rattle.key_switch_tile.specs.Rows.{Near}
-use Rattle.key_switch_tile.specs.Tile.{lane, PlaceRoom, Placed, Shaped, Lanes, begun, Reached}
+use Rattle.key_switch_tile.specs.Tile.{Shaped, begun, Reached, Fits, Grown}
 use Rattle.key_switch_tile.proofs.Lanes.{in_run}
-use Rattle.key_switch_tile.proofs.Walks.{q_pos, q_most, twice, levels-most, digit-near, start-most, reached_start, reached_next}
+use Rattle.key_switch_tile.proofs.Walks.{q_pos, q_most, twice, levels-most, start-most, reached_start}
 use Rattle.key_switch_accumulate.specs.Rows.{Kept}
 
 -- the numbers that the loop is set up with: q, B/2, the most that a place adds, and the limit that leaves room for it
@@ -101,39 +98,22 @@ module _ {p : PreparedBasis} {n m rows : ℕ} {input key : List ℕ} (sh : Shape
                   (g.reached.word t c u v);
             }
 
-        pub kept_sized : length acc₁ ≡ rows * (m + 1)
-        kept_sized = reached₁.sized
-
         pub ceiling_fits : r + cost < 2 ^ 64
         ceiling_fits = omega (arith, kp.low, small, k.costs, k.leaves)
 
-        module _ {lanes : List SignedDecomposer} (l : Lanes p n rows i input lanes) where
-          near : (t j : ℕ) → t < rows → j < p.level_count → Near q h (step_digit (lane lanes t) j)
-          near t j u v =
-              subst (λ z. Near q z (step_digit (lane lanes t) j)) (sym k.halved)
-              (subst (λ z. Near z (half (basis_in p)) (step_digit (lane lanes t) j)) k.modulus (digit-near sh i inside lanes l t j u v))
+        pub kept_reached : Reached p n m rows i input key (map (λ x. x) acc₁)
+        kept_reached = rw (map-id acc₁) reached₁
 
-          pub walk_room : PlaceRoom q h (h * q) (m + 1) rows p.level_count lanes key (map (λ x. x) acc₁)
-          walk_room =
-              rw (map-id acc₁)
-              record {
-                keys = λ x u. subst (λ z. get_or key x 0 < z) k.modulus (sh.keys x u);
-                digits = near;
-                room = λ t c u v. omega (arith, most₁ t c u v, ceiling_fits, k.costs);
-              }
+        pub walk_fits : Fits p m rows q h (h * q) (map (λ x. x) acc₁)
+        walk_fits =
+            rw (map-id acc₁)
+            record { ring = k.modulus; halves = omega (arith, k.halved); room = λ t c u v. omega (arith, most₁ t c u v, ceiling_fits, k.costs) }
 
-          pub walking_on : {acc₂ : List ℕ} → Placed q (h * q) (m + 1) rows p.level_count (i * (p.level_count * (m + 1))) key lanes (map (λ x. x) acc₁) (map (λ x. x) acc₂)
-              → Walking p n m rows input key acc₂ (r + cost) (i + 1)
-          walking_on {acc₂} d =
-              record {
-                reached =
-                    reached_next sh i inside lanes l (h * q) acc₁ acc₂ reached₁
-                    (subst (λ z. Placed z (h * q) (m + 1) rows p.level_count (i * (p.level_count * (m + 1))) key lanes acc₁ acc₂) (sym k.modulus) placed);
-                most = λ t c u v. omega (arith, placed.most t c u v, most₁ t c u v, k.costs);
-              }
-            where
-              placed : Placed q (h * q) (m + 1) rows p.level_count (i * (p.level_count * (m + 1))) key lanes acc₁ acc₂
-              placed = rw (map-id acc₁, map-id acc₂) at d
+        pub walking_on : {acc₂ : List ℕ} → Reached p n m rows (i + 1) input key (map (λ x. x) acc₂) × Grown m rows (p.level_count * (h * q)) (map (λ x. x) acc₁) (map (λ x. x) acc₂)
+            → Walking p n m rows input key acc₂ (r + cost) (i + 1)
+        walking_on {acc₂} d =
+            let e : Reached p n m rows (i + 1) input key acc₂ × Grown m rows (p.level_count * (h * q)) acc₁ acc₂ = rw (map-id acc₁, map-id acc₂) at d in
+            record { reached = e.0; most = λ t c u v. omega (arith, e.1 t c u v, most₁ t c u v, k.costs) }
 
 -- ---- numbers
 

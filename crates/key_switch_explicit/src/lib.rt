@@ -3,8 +3,7 @@
 
 ghost use Rattle.std.specs.Prelude.{◌≡◌, ◌+◌, ◌-◌, ◌*◌, ◌/◌, ◌^◌, ◌<◌, ◌≤◌, length};
 ghost use Rattle.primus_reduce.specs.declared.modulus.Modulus.TheVariants.{Explicit};
-ghost use Rattle.key_switch_tile.specs.Switched.{switched_tile};
-ghost use Rattle.key_switch_tile.specs.Tile.{Reached, begun};
+ghost use Rattle.key_switch_tile.specs.Switched.{begun_tile, ReachedBy, switched_tile};
 
 use key_switch_tile::{Kernel, Tile};
 use primus_reduce::Divisor;
@@ -50,10 +49,8 @@ fn cost_of(levels: usize, half: u32, q: u32) -> u64
 
 // The rows go through all n places. No accumulator is above `ceiling`.
 fn walk(acc: &mut [u64], tile: Tile, q: Divisor)
-    requires { (tile.shape.basis.modulus ≡ Explicit q.q)
-        × (acc.old ≡ begun tile.shape.n tile.shape.m tile.rows tile.input.now) }
-    ensures { Reached tile.entry.shape.basis tile.entry.shape.n tile.entry.shape.m tile.entry.rows tile.entry.shape.n
-        tile.entry.input.now tile.entry.key.now acc.new }
+    requires { (tile.shape.basis.modulus ≡ Explicit q.q) × (acc.old ≡ begun_tile tile) }
+    ensures { ReachedBy tile.entry tile.entry.shape.n acc.new }
 {
     let s = tile.shape;
     let half = half_of(s.basis.log_basis);

@@ -26,25 +26,25 @@ fn switch_tile(acc: &mut [u64], out: &mut [u32], tile: Tile)
 }
 
 // Switches `count` ciphertexts. The accumulators are made once, for every tile.
-pub fn switch_tiles(out: &mut [u32], input: &[u32], key: &[u32], count: usize, s: Shape)
-    requires { Shaped s.basis s.n s.m count input.now key.now × (length out.old ≡ count * (s.m + 1)) }
-    ensures { out.new
-        ≡ switched_batch (basis_in s.basis) s.n s.m key.now count input.now }
+// Stays: `count`, which the caller has: from a length and n it would take one more division.
+pub fn switch_tiles(out: &mut [u32], input: &[u32], key: &[u32], count: usize, shape: Shape)
+    requires { Shaped shape.basis shape.n shape.m count input.now key.now × (length out.old ≡ count * (shape.m + 1)) }
+    ensures { out.new ≡ switched_batch (basis_in shape.basis) shape.n shape.m key.now count input.now }
 {
     let mut acc = [0u64; ACCUMULATORS];
     for u in 0..count.div_ceil(TILE) {
         let done = u * TILE;
         let rows = (count - done).min(TILE);
-        let room = rows * (s.m + 1);
-        let from = done * (s.m + 1);
+        let room = rows * (shape.m + 1);
+        let from = done * (shape.m + 1);
         let to = from + room;
-        let first = done * (s.n + 1);
-        let last = first + rows * (s.n + 1);
+        let first = done * (shape.n + 1);
+        let last = first + rows * (shape.n + 1);
         let tile = Tile {
             input: &input[first..last],
             key,
             rows,
-            shape: s,
+            shape,
         };
         switch_tile(&mut acc[..room], &mut out[from..to], tile);
     }

@@ -2,7 +2,7 @@
 -- Assumes nothing.
 use mathlib.Core.Path.{◌≡◌, refl, ◌∙◌, ap₂, subst}
 use mathlib.Core.List.{List}
-use Prim.Native.Nat.{ℕ, suc, ◌+◌, ◌*◌, ◌-◌, ◌<◌, ◌≤◌}
+use Prim.Native.Nat.{ℕ, suc, ◌+◌, ◌*◌, ◌-◌, ◌^◌, ◌<◌, ◌≤◌}
 use native.Mathlib.Omega.{arith}
 use native.Mathlib.Nat.{mul-le-mul_right}
 use native.Mathlib.Numerals.{add-one}
@@ -10,6 +10,7 @@ use lib.IntN.{ℤ, pos, ◌+ℤ◌, ◌-ℤ◌, ◌*ℤ◌}
 use lib.ListN.{length, get_or, take, drop, length-drop}
 use lib.Seq.{length-take-le, get_or-take, get_or-drop}
 use Rattle.scheme.specs.Numbers.{Cong, sum_to}
+use Rattle.scheme.specs.Switch.{Below}
 use Rattle.scheme.proofs.Integers.{⊖-eq, diff, diffs₃}
 use Rattle.scheme.proofs.Residue.{cong_refl, cong_trans, cong_of_eq}
 use Rattle.scheme.proofs.Lwe.{cong_sub}
@@ -17,7 +18,8 @@ use Rattle.gadget_digits.specs.declared.SignedDecomposer.{SignedDecomposer}
 use Rattle.gadget_digits.specs.Step.{step_of}
 use Rattle.gadget_digits.specs.Column.{after, step_digit}
 use Rattle.gadget_digits.proofs.Columns.{after_none, after_next}
-use Rattle.key_switch_tile.specs.Tile.{tile, lane, LevelRoom, Leveled, PlaceRoom, Placed, takes}
+use Rattle.key_switch_tile.specs.Rows.{Near}
+use Rattle.key_switch_tile.specs.Tile.{tile, lane, LevelRoom, Leveled}
 
 -- L entries, from `start` on
 pub record Place (w rows L start : ℕ) (lanes : List SignedDecomposer) (key acc : List ℕ) : Type 0 where
@@ -25,6 +27,22 @@ pub record Place (w rows L start : ℕ) (lanes : List SignedDecomposer) (key acc
   pub count : length lanes ≡ tile
   pub sized : length acc ≡ rows * w
   pub keyed : start + L * w ≤ length key
+
+pub record Room (q half grow w rows L : ℕ) (lanes : List SignedDecomposer) (key acc : List ℕ) : Type 0 where
+  pub keys : Below q key
+  pub digits : (t j : ℕ) → t < rows → j < L → Near q half (step_digit (lane lanes t) j)
+  pub room : (t c : ℕ) → t < rows → c < w → get_or acc (t * w + c) 0 + L * grow < 2 ^ 64
+
+-- what the first L levels take away from word c, by the digits of the decomposer d
+unfoldable pub takes : ℕ → ℕ → ℕ → List ℕ → SignedDecomposer → ℕ → ℤ
+takes w L start key d c = sum_to L (λ j. pos (step_digit d j) *ℤ pos (get_or key (start + j * w + c) 0))
+
+pub record Placed (q grow w rows L start : ℕ) (key : List ℕ) (lanes : List SignedDecomposer) (acc acc' : List ℕ)
+    : Type 0 where
+  pub same : length acc' ≡ length acc
+  pub word : (t c : ℕ) → t < rows → c < w
+      → Cong q (pos (get_or acc' (t * w + c) 0)) (pos (get_or acc (t * w + c) 0) -ℤ takes w L start key (lane lanes t) c)
+  pub most : (t c : ℕ) → t < rows → c < w → get_or acc' (t * w + c) 0 ≤ get_or acc (t * w + c) 0 + L * grow
 
 -- the levels below j are done
 pub record Sinking (q grow w rows L start : ℕ) (key : List ℕ) (lanes₀ : List SignedDecomposer) (acc₀ : List ℕ) (lanes : List SignedDecomposer) (acc : List ℕ) (j : ℕ) : Type 0 where
@@ -84,7 +102,7 @@ module _ {q grow w rows L start : ℕ} {key : List ℕ} {lanes₀ : List SignedD
     entry_at c k =
         get_or-take (start + j * w + w - (start + j * w)) (drop (start + j * w) key) c 0 (omega arith) ∙ get_or-drop (start + j * w) key c 0
 
-    pub level_room : {half : ℕ} → PlaceRoom q half grow w rows L lanes₀ key acc₀
+    pub level_room : {half : ℕ} → Room q half grow w rows L lanes₀ key acc₀
         → LevelRoom q half grow w rows lanes (take (start + j * w + w - (start + j * w)) (drop (start + j * w) key)) acc
     unfolding entry
     level_room {half} r =

@@ -8,7 +8,7 @@ use native.Mathlib.Omega.{arith}
 use native.Mathlib.Nat.{mul-le-mul_left, mul-le-mul_right, pow-suc, pow-zero}
 use lib.Dec.{eqb}
 use lib.Pow.{pow_pos, pow_mono}
-use lib.IntN.{ℤ, pos, negsuc}
+use lib.IntN.{ℤ, pos, negsuc, ◌-ℤ◌}
 use lib.ListN.{length, get_or}
 use Rattle.scheme.specs.Numbers.{pick, Cong, tabulate}
 use Rattle.scheme.specs.Basis.{Accepted, half, dropped}
@@ -34,9 +34,9 @@ use Rattle.gadget_digits.specs.Step.{decomposer_of}
 use Rattle.gadget_constants.proofs.Columns.{step_digits}
 use Rattle.gadget_constants.proofs.Constants.{decomposer_ready}
 use Rattle.key_switch_tile.specs.Rows.{Near}
-use Rattle.key_switch_tile.specs.Tile.{tile, lane, Placed, takes, Shaped, Lanes, begun, Reached}
+use Rattle.key_switch_tile.specs.Tile.{tile, lane, Fits, Shaped, Lanes, begun, Reached}
 use Rattle.key_switch_tile.proofs.Lanes.{in_run}
-use Rattle.key_switch_tile.proofs.Places.{Place}
+use Rattle.key_switch_tile.proofs.Places.{Place, Room, Placed, takes}
 
 -- a stored digit is below B/2 or within B/2 of q
 pub stored-near : (q h : ℕ) (z : ℤ) → 0 < h → h + h ≤ q → Balanced h z → Near q h (stored q z)
@@ -77,6 +77,9 @@ module _ {p : PreparedBasis} {n m rows : ℕ} {input key : List ℕ} (sh : Shape
   halves : (0 < half (basis_in p)) × (half (basis_in p) + half (basis_in p) ≤ size_of p.modulus)
   halves = (omega (arith, twice, pow_pos p.log_basis), omega (arith, twice, ok.fits))
 
+  pub half-most : half (basis_in p) ≤ 2 ^ 31
+  half-most = omega (arith, twice, pow_mono {i = p.log_basis} {j = 32} (omega (arith, log_limits)))
+
   -- word i of row t
   word_below : (t i : ℕ) → t < rows → i < n → get_or input (t * (n + 1) + i) 0 < size_of p.modulus
   word_below t i h k = sh.words (t * (n + 1) + i) (omega (arith, sh.inputs, in_run (n + 1) rows t i h (omega arith)))
@@ -87,7 +90,7 @@ module _ {p : PreparedBasis} {n m rows : ℕ} {input key : List ℕ} (sh : Shape
       l.is t h ∙ decomposer_ready p sh.ready (get_or input (t * (n + 1) + i) 0) (word_below t i h k)
       ∙ ap (decomposer_of (basis_in p)) (sym (part_at (n + 1) input t i (omega arith)))
 
-  pub digit-near : (i : ℕ) → i < n → (lanes : List SignedDecomposer) → Lanes p n rows i input lanes → (t j : ℕ) → t < rows → j < p.level_count
+  digit-near : (i : ℕ) → i < n → (lanes : List SignedDecomposer) → Lanes p n rows i input lanes → (t j : ℕ) → t < rows → j < p.level_count
       → Near (size_of p.modulus) (half (basis_in p)) (step_digit (lane lanes t) j)
   digit-near i k lanes l t j h e =
       subst (Near (size_of p.modulus) (half (basis_in p)))
@@ -134,20 +137,32 @@ module _ {p : PreparedBasis} {n m rows : ℕ} {input key : List ℕ} (sh : Shape
       go true l = omega arith
       go false l = omega arith
 
-  pub reached_next : (i : ℕ) → i < n → (lanes : List SignedDecomposer) → Lanes p n rows i input lanes
-      → (grow : ℕ) (acc acc' : List ℕ) → Reached p n m rows i input key acc → Placed (size_of p.modulus) grow (m + 1) rows p.level_count (i * (p.level_count * (m + 1))) key lanes acc acc'
-      → Reached p n m rows (i + 1) input key acc'
-  reached_next i h lanes l grow acc acc' r d =
-      record {
-        sized = d.same ∙ r.sized;
-        word = λ t c u v.
-            cong_trans (d.word t c u v)
-            (cong_trans (cong_sub (r.word t c u v)
-            (cong_trans
-            (cong_of_eq (size_of p.modulus) (ap (λ x. takes (m + 1) p.level_count (i * (p.level_count * (m + 1))) key x c) (lane-is i h lanes l t u)))
-            (takes_cong (get_or (row_of n input t) i 0) i c)))
-            (cong_of_eq (size_of p.modulus) (sym (after_next (basis_in p) n m key (row_of n input t) i c))));
-      }
+  -- the near digits of a kernel whose bound is no less
+  near_more : {q h h' d : ℕ} → h ≤ h' → Near q h d → Near q h' d
+  near_more l d = record { word = d.word; near = λ u. let v = d.near (omega arith) in omega arith }
+
+  module _ {i : ℕ} (h : i < n) {lanes : List SignedDecomposer} (l : Lanes p n rows i input lanes) {q near grow : ℕ} {acc : List ℕ} (f : Fits p m rows q near grow acc) where
+    pub place_room : Room q near grow (m + 1) rows p.level_count lanes key acc
+    place_room =
+        record {
+          keys = λ x u. subst (λ z. get_or key x 0 < z) f.ring (sh.keys x u);
+          digits = λ t j u v. near_more f.halves (subst (λ z. Near z (half (basis_in p)) (step_digit (lane lanes t) j)) f.ring (digit-near i h lanes l t j u v));
+          room = f.room;
+        }
+
+    pub reached_next : Reached p n m rows i input key acc → {acc' : List ℕ} → Placed q grow (m + 1) rows p.level_count (i * (p.level_count * (m + 1))) key lanes acc acc'
+        → Reached p n m rows (i + 1) input key acc'
+    reached_next r {acc'} d =
+        record {
+          sized = d.same ∙ r.sized;
+          word = λ t c u v.
+              cong_trans (subst (λ z. Cong z (pos (get_or acc' (t * (m + 1) + c) 0)) (pos (get_or acc (t * (m + 1) + c) 0) -ℤ takes (m + 1) p.level_count (i * (p.level_count * (m + 1))) key (lane lanes t) c)) (sym f.ring) (d.word t c u v))
+              (cong_trans (cong_sub (r.word t c u v)
+              (cong_trans
+              (cong_of_eq (size_of p.modulus) (ap (λ x. takes (m + 1) p.level_count (i * (p.level_count * (m + 1))) key x c) (lane-is i h lanes l t u)))
+              (takes_cong (get_or (row_of n input t) i 0) i c)))
+              (cong_of_eq (size_of p.modulus) (sym (after_next (basis_in p) n m key (row_of n input t) i c))));
+        }
 
   -- the key has the entries of place i
   pub place_in : (i : ℕ) → i < n → i * (p.level_count * (m + 1)) + p.level_count * (m + 1) ≤ length key

@@ -1,13 +1,13 @@
 -- A tile of up to eight ciphertexts, each a row of accumulators and a lane: its own decomposer.
-use Rattle.std.specs.Prelude.{◌≡◌, false, List, ℕ, ◌+◌, ◌*◌, ◌^◌, ◌<◌, ◌≤◌, ℤ, pos, ◌-ℤ◌, ◌*ℤ◌, length, get_or}
-use Rattle.scheme.specs.Numbers.{Cong, sum_to, tabulate, rows_of}
+use Rattle.std.specs.Prelude.{◌≡◌, false, List, ℕ, ◌+◌, ◌*◌, ◌^◌, ◌<◌, ◌≤◌, pos, ◌-ℤ◌, ◌*ℤ◌, length, get_or}
+use Rattle.scheme.specs.Numbers.{Cong, tabulate, rows_of}
+use Rattle.scheme.specs.Basis.{half}
 use Rattle.scheme.specs.Lwe.{row_of}
 use Rattle.scheme.specs.Switch.{Below, start_word, after}
 use Rattle.primus_reduce.specs.Ring.{size_of}
 use Rattle.gadget_digits.specs.declared.SignedDecomposer.{SignedDecomposer}
 use Rattle.gadget_constants.specs.declared.prepared.PreparedBasis.{PreparedBasis}
 use Rattle.gadget_digits.specs.Step.{step_of}
-use Rattle.gadget_digits.specs.Column.{step_digit}
 use Rattle.gadget_constants.specs.Prepared.{Ready, basis_in}
 use Rattle.gadget_constants.specs.Word.{decomposer_from}
 use Rattle.key_switch_tile.specs.Rows.{Near}
@@ -42,24 +42,6 @@ pub record Leveled (q grow w rows : ℕ) (entry : List ℕ) (lanes : List Signed
   pub less : (t : ℕ) → t < rows → RowLess q grow w (step_of (lane lanes t)).digit entry acc acc' t
   pub moved : (t : ℕ) → t < rows → lane lanes' t ≡ (step_of (lane lanes t)).next
 
--- ---- one place: L entries, from `start` on
-
-pub record PlaceRoom (q half grow w rows L : ℕ) (lanes : List SignedDecomposer) (key acc : List ℕ) : Type 0 where
-  pub keys : Below q key
-  pub digits : (t j : ℕ) → t < rows → j < L → Near q half (step_digit (lane lanes t) j)
-  pub room : (t c : ℕ) → t < rows → c < w → get_or acc (t * w + c) 0 + L * grow < 2 ^ 64
-
--- what the first L levels take away from word c, by the digits of the decomposer d
-unfoldable pub takes : ℕ → ℕ → ℕ → List ℕ → SignedDecomposer → ℕ → ℤ
-takes w L start key d c = sum_to L (λ j. pos (step_digit d j) *ℤ pos (get_or key (start + j * w + c) 0))
-
-pub record Placed (q grow w rows L start : ℕ) (key : List ℕ) (lanes : List SignedDecomposer) (acc acc' : List ℕ)
-    : Type 0 where
-  pub same : length acc' ≡ length acc
-  pub word : (t c : ℕ) → t < rows → c < w
-      → Cong q (pos (get_or acc' (t * w + c) 0)) (pos (get_or acc (t * w + c) 0) -ℤ takes w L start key (lane lanes t) c)
-  pub most : (t c : ℕ) → t < rows → c < w → get_or acc' (t * w + c) 0 ≤ get_or acc (t * w + c) 0 + L * grow
-
 -- ---- all places
 
 -- an accepted basis, `rows` ciphertexts and a key of n × L entries, with words below q
@@ -87,3 +69,14 @@ pub record Reached (p : PreparedBasis) (n m rows i : ℕ) (input key acc : List 
   pub word : (t c : ℕ) → t < rows → c < m + 1
       → Cong (size_of p.modulus) (pos (get_or acc (t * (m + 1) + c) 0))
       (after (basis_in p) n m key (row_of n input t) i c)
+
+-- ---- one place more, modulo q, with digits within `near` of 0 or q; a level adds at most `grow`
+
+pub record Fits (p : PreparedBasis) (m rows q near grow : ℕ) (acc : List ℕ) : Type 0 where
+  pub ring : size_of p.modulus ≡ q
+  pub halves : half (basis_in p) ≤ near
+  pub room : (t c : ℕ) → t < rows → c < m + 1 → get_or acc (t * (m + 1) + c) 0 + p.level_count * grow < 2 ^ 64
+
+abbrev pub Grown : ℕ → ℕ → ℕ → List ℕ → List ℕ → Type 0
+Grown m rows more acc acc' =
+    (t c : ℕ) → t < rows → c < m + 1 → get_or acc' (t * (m + 1) + c) 0 ≤ get_or acc (t * (m + 1) + c) 0 + more

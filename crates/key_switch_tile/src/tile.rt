@@ -30,12 +30,13 @@ fn start_row(out: &mut [u32], body: u32)
 // Stays: the length of `out` and `acc` is required: a ghost field beside a `&mut` is not covered by the language.
 impl<'a> Tile<'a> {
     ghost use Rattle.std.specs.Prelude.{◌+◌, ◌*◌, map};
-    ghost use Rattle.key_switch_tile.specs.Tile.{Lanes, begun, LevelRoom, Leveled, PlaceRoom, Placed};
+    ghost use Rattle.key_switch_tile.specs.Switched.{LanesOf, begun_tile, ReachedBy, FitsTile, GrownBy};
+    ghost use Rattle.key_switch_tile.specs.Tile.{LevelRoom, Leveled};
 
     // The lanes of mask place i: the decomposer of each row's word. None is kept from the place before.
     pub fn lanes(self, i: usize) -> [SignedDecomposer; TILE]
         requires { i < self.shape.n }
-        ensures { Lanes self.entry.shape.basis self.entry.shape.n self.entry.rows i self.entry.input.now result }
+        ensures { LanesOf self.entry i result }
     {
         let none = SignedDecomposer {
             value: 0,
@@ -54,7 +55,7 @@ impl<'a> Tile<'a> {
     // Each row becomes (0, b).
     pub fn start(self, out: &mut [u32])
         requires { length out.old ≡ self.rows * (self.shape.m + 1) }
-        ensures { out.new ≡ begun self.entry.shape.n self.entry.shape.m self.entry.rows self.entry.input.now }
+        ensures { out.new ≡ begun_tile self.entry }
     {
         let n = self.shape.n;
         let width = self.shape.m + 1;
@@ -97,14 +98,10 @@ impl<'a> Tile<'a> {
         i: usize,
         mut lanes: [SignedDecomposer; TILE],
     )
-        requires { (i < self.shape.n) × (length acc.old ≡ self.rows * (self.shape.m + 1))
-            × Lanes self.shape.basis self.shape.n self.rows i self.input.now lanes
-            × PlaceRoom (K.ring kernel.now) (K.near kernel.now) (K.growth kernel.now) (self.shape.m + 1) self.rows
-            self.shape.basis.level_count lanes self.key.now (map K.number acc.old) }
-        ensures { Placed (K.ring kernel.now) (K.growth kernel.now) (self.entry.shape.m + 1) self.entry.rows
-            self.entry.shape.basis.level_count
-            (i * (self.entry.shape.basis.level_count * (self.entry.shape.m + 1))) self.entry.key.now
-            lanes (map K.number acc.old) (map K.number acc.new) }
+        requires { (i < self.shape.n) × LanesOf self i lanes × ReachedBy self i (map K.number acc.old)
+            × FitsTile self (K.ring kernel.now) (K.near kernel.now) (K.growth kernel.now) (map K.number acc.old) }
+        ensures { ReachedBy self.entry (i + 1) (map K.number acc.new)
+            × GrownBy self.entry (K.growth kernel.now) (map K.number acc.old) (map K.number acc.new) }
     {
         let levels = self.shape.basis.level_count;
         let width = self.shape.m + 1;
