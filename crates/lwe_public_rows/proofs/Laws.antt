@@ -38,8 +38,7 @@ is_zip f xs ys zs e l h =
     ext_get_or 0 zs (zip_with f xs ys) (l ∙ sym (length_zip f xs ys e))
     (λ i k. h i (omega arith) ∙ sym (zip_at f xs ys i e (omega arith)))
 
-pub is_table : (f : ℕ → ℕ) (c : ℕ) (zs : List ℕ) → length zs ≡ c → ((i : ℕ) → i < c → get_or zs i 0 ≡ f i) → zs ≡ tabulate c f
-is_table f c zs e h = is-tabulate c f zs e h
+pub ruleset tables = (is-tabulate)
 
 -- word k before any row
 module _ (q n k : ℕ) (f : ℕ → ℤ) (h : 0 < q) (error : ℕ) (e : error ≡ modulo q (f k)) where

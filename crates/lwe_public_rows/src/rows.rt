@@ -36,7 +36,7 @@ fn start_word(errors: &[i32], plaintext: u32, k: usize, n: usize, ring: Ring) ->
     error
 }
 
-#[tactic(auto, using(crate::proofs::Laws::is_table))]
+#[tactic(auto, using(crate::proofs::Laws::tables))]
 fn start(out: &mut [u32], errors: &[i32], plaintext: u32, n: usize, ring: Ring)
     ensures { out.new ≡ tabulate (length out.old)
         (start_word (size_of ring.modulus) n (errorsOf errors.now) plaintext) }

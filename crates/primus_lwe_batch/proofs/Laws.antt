@@ -10,10 +10,13 @@ use borrow.Author.Tests.{eqb-true, not-false}
 use Rattle.scheme.specs.Lwe.{Key}
 use Rattle.scheme.specs.Checks.{length_fails, batch_fails}
 use Rattle.scheme.proofs.Checks.{length_ok}
+use Rattle.scheme.proofs.Lists.{is-tabulate}
 use Rattle.scheme.proofs.Order.{neither}
 use Rattle.lwe_secret_key.specs.Runs.{Run}
 use Rattle.primus_lwe.proofs.Coded.{phase-below}
 use Rattle.primus_lwe_batch.specs.Answers.{batch_phase}
+
+pub ruleset tables = (is-tabulate)
 
 -- 9, 11 and 12 of an encryption: a mask and a row for each message
 pub run_ok : (key room errors masks n count : ℕ) → length_fails key n ≡ false → length_fails room (count * (n + 1)) ≡ false

@@ -18,6 +18,7 @@ use primus_encoding::{PlaintextEmbedding, RoundedCodec, encode_or_zero};
 use primus_reduce::Ring;
 
 // A row for each message.
+#[tactic(auto, using(lwe_secret_key::proofs::Runs::rows_done))]
 fn write_messages(
     out: &mut [u32],
     params: LweParameters,
@@ -74,6 +75,7 @@ fn row_phase(input: &[u32], secret: &[u32], i: usize, ring: Ring) -> u32
     LweSecretKeyRef::Encoded(secret).phase(&input[at..at + (n + 1)], ring)
 }
 
+#[tactic(auto, using(crate::proofs::Laws::tables))]
 fn row_phases(out: &mut [u32], input: &[u32], secret: &[u32], ring: Ring)
     requires { length input.now ≡ length out.old * (length secret.now + 1) }
     ensures { out.new ≡ tabulate (length out.old)
