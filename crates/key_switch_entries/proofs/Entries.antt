@@ -55,7 +55,7 @@ unfolding generated_entry
 entered_start {p} {m = m} {masks = masks} {errors = errors} s s' out g =
     filling_start _ (m + 1) (length errors) out g.fits (λ k h. encrypted-row (size_of p.modulus) m (length errors) k masks s' _ _ g.masked h)
 
-pub q_pos : {p : PreparedBasis} → Ready p → 0 < size_of p.modulus
+q_pos : {p : PreparedBasis} → Ready p → 0 < size_of p.modulus
 q_pos {p} r = omega (arith, r.sound.accepted.fits, pow_pos p.log_basis)
 
 module _ {p : PreparedBasis} {weights : List ℕ} {m : ℕ} {masks : List ℕ} {errors : List ℤ} {room : ℕ} (g : Entering p weights m masks errors room) where

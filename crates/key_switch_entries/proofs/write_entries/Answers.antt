@@ -1,10 +1,7 @@
 use Rattle.scheme.specs.Lwe.{words as words_of, secret_of}
 use Rattle.lwe_secret_key.specs.Key.{key_of}
-use Rattle.key_switch_entries.proofs.Entries.{q_pos, entering, entered_start, entered_on, entered_end}
+use Rattle.key_switch_entries.proofs.Entries.{entering, entered_start, entered_on}
 use Rattle.key_switch_entries.proofs.write_entries.Goals as goal
-
-pub invariant_of-ring : goal.invariant_of-ring
-invariant_of-ring c = record { positive = q_pos c.prepared-p.ensures.0 }
 
 pub loop-k-init : goal.loop-k-init
 loop-k-init c = entered_start (secret_of (key_of c.args.key)) (words_of c.args.output_key.now) c.args.out.now (entering c.requires c.prepared-p.ensures c.scalars-weights.ensures)
@@ -13,7 +10,3 @@ pub loop-k-preserved : goal.loop-k-preserved
 loop-k-preserved c =
     entered_on (entering c.requires c.prepared-p.ensures c.scalars-weights.ensures) (secret_of (key_of c.args.key)) (words_of c.args.output_key.now) c.loop-k.invariant c.loop-k-test.true
     c.residue-secret.ensures c.reduce_mul-plaintext.ensures c.encrypt_row.ensures
-
-pub returns : goal.returns
-returns c =
-    entered_end c.requires c.prepared-p.ensures (secret_of (key_of c.args.key)) (words_of c.args.output_key.now) c.loop-k.invariant c.loop-k-test.false
