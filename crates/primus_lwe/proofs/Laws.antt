@@ -1,18 +1,23 @@
 -- What the checks of a call leave, by the number of a check that has passed.
 -- Assumes nothing.
-use mathlib.Core.Path.{◌≡◌}
+use mathlib.Core.Path.{◌≡◌, sym, ◌∙◌}
 use mathlib.Core.Bool.{false, ◌||◌}
+use mathlib.Core.List.{List}
 use Prim.Native.Nat.{ℕ, ◌+◌, ◌-◌, ◌<◌}
 use native.Mathlib.Omega.{arith}
-use Rattle.scheme.specs.Checks.{modulus_fails, length_fails}
+use Rattle.scheme.specs.Checks.{Check, refusal, applies, modulus_fails, length_fails}
 use Rattle.scheme.proofs.Checks.{modulus_ok, length_ok}
-use Rattle.scheme.proofs.Order.{neither}
+use Rattle.scheme.proofs.Order.{neither, passed}
 use Rattle.primus_reduce.specs.Ring.{meant, size_of}
 use Rattle.primus_reduce.specs.declared.modulus.Modulus.{Modulus}
 
 -- 2
 pub positive : (m : Modulus) → modulus_fails (meant m) ≡ false → 0 < size_of m
 positive m two = omega (arith, modulus_ok 32 (meant m) (omega arith) two)
+
+-- and of a call's checks that have passed
+pub ring_judged : (rows : List Check) (m : Modulus) → 0 ≡ refusal rows → applies rows 2 ≡ modulus_fails (meant m) → 0 < size_of m
+ring_judged rows m e f = positive m (sym f ∙ passed rows (sym e) 2 tt)
 
 -- 12, of one ciphertext
 pub mask_ok : (mask errors n : ℕ) → (length_fails errors 1 || length_fails mask n) ≡ false → mask ≡ n

@@ -18,7 +18,7 @@ use primus_encoding::{PlaintextEmbedding, RoundedCodec, encode_or_zero};
 use primus_reduce::Ring;
 
 // A row for each message.
-#[tactic(auto, using(lwe_secret_key::proofs::Runs::rows_done))]
+#[tactic(auto, using(lwe_secret_key::proofs::Runs::rows_done, primus_lwe::proofs::Laws::positive))]
 fn write_messages(
     out: &mut [u32],
     params: LweParameters,
@@ -88,6 +88,7 @@ fn row_phases(out: &mut [u32], input: &[u32], secret: &[u32], ring: Ring)
 }
 
 // The phase of each ciphertext. Refuses by 2, 6, 9, 10, 11, 14.
+#[tactic(auto, using(primus_lwe::proofs::Laws::ring_judged))]
 pub fn decrypt_phase_batch_to(
     params: LwePhaseParameters,
     secret: &[u32],
@@ -106,6 +107,7 @@ pub fn decrypt_phase_batch_to(
 }
 
 // decode of the phase of each ciphertext. Refuses by 2, 6, 7, 8, 9, 10, 11, 14.
+#[tactic(auto, using(primus_lwe::proofs::Laws::ring_judged))]
 pub fn decrypt_message_batch_to(
     params: LweDecryptionParameters,
     secret: &[u32],

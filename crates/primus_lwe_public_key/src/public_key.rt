@@ -129,6 +129,7 @@ fn public_message_refusal(
 
 impl LwePublicKey {
     // n encryptions of 0 in out, from n masks and n errors. Refuses by 2, 6, 9, 11, 12, 13, 14, 15.
+    #[tactic(auto, using(primus_lwe::proofs::Laws::ring_judged))]
     pub fn generate(
         params: LweEncryptionParameters,
         secret: LweSecretKeyRef,
@@ -148,6 +149,7 @@ impl LwePublicKey {
     }
 
     // An encryption of p from n + 1 errors and n coefficients; no tally. Refuses by 2, 6, 9, 11, 12, 13, 14, 15.
+    #[tactic(auto, using(primus_lwe::proofs::Laws::ring_judged))]
     pub fn encrypt_encoded_to(
         params: LweEncryptionParameters,
         key: &[u32],
@@ -168,6 +170,7 @@ impl LwePublicKey {
     }
 
     // An encryption of encode(m); no tally. Refuses by 2, 6, 7, 8, 9, 11, 12, 13, 14, 15, 16.
+    #[tactic(auto, using(primus_lwe::proofs::Laws::ring_judged))]
     pub fn encrypt_message_to(
         params: LweParameters,
         embedding: PlaintextEmbedding,

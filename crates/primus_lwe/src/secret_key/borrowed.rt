@@ -10,6 +10,7 @@ use lwe_tag::LweTag;
 use primus_reduce::Ring;
 
 // b = ⟨a, s⟩ + e + p modulo q; out holds (a, b), with tally E. Refuses by 2, 6, 9, 11, 12, 13, 14, 15.
+#[tactic(auto, using(crate::proofs::Laws::ring_judged))]
 pub fn encrypt_encoded_to(
     params: LweEncryptionParameters,
     key: LweSecretKeyRef,
@@ -29,6 +30,7 @@ pub fn encrypt_encoded_to(
 }
 
 // b − ⟨a, s⟩ modulo q. Refuses by 2, 6, 9, 10, 14.
+#[tactic(auto, using(crate::proofs::Laws::ring_judged))]
 pub fn decrypt_phase(
     params: LwePhaseParameters,
     key: LweSecretKeyRef,

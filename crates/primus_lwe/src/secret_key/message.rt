@@ -11,6 +11,7 @@ use primus_encoding::{PlaintextEmbedding, decode_or_zero, encode_or_zero};
 use primus_reduce::Ring;
 
 // An encryption of encode(m), with tally E. Refuses by 2, 6, 7, 8, 9, 11, 12, 13, 14, 15, 16.
+#[tactic(auto, using(crate::proofs::Laws::ring_judged))]
 pub fn encrypt_message_to(
     params: LweParameters,
     embedding: PlaintextEmbedding,
@@ -30,6 +31,7 @@ pub fn encrypt_message_to(
 }
 
 // decode of the phase. Refuses by 2, 6, 7, 8, 9, 10, 14.
+#[tactic(auto, using(crate::proofs::Laws::ring_judged))]
 pub fn decrypt_message(
     params: LweDecryptionParameters,
     key: LweSecretKeyRef,

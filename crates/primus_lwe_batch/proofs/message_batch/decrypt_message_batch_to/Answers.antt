@@ -14,10 +14,6 @@ pub returns-in_err-decrypt_refusal : goal.returns-in_err-decrypt_refusal
 returns-in_err-decrypt_refusal c =
     rw (handed_on _ c.from_residual.ensures.1) (record { writes = unwritten _ (rw c.into.ensures at c.in_err-decrypt_refusal.ensures) })
 
-pub invariant_of-row_phases : goal.invariant_of-row_phases
-invariant_of-row_phases c =
-    record { positive = positive c.args.params.modulus (passed _ (sym (rw c.into.ensures at c.in_ok-decrypt_refusal.ensures)) 2 tt) }
-
 pub row_phases-requires : goal.row_phases-requires
 row_phases-requires c =
     let no = passed _ (sym (rw c.into.ensures at c.in_ok-decrypt_refusal.ensures)) in rows_ok _ _ _ _ (no 9 tt) (no 10 tt) (no 11 tt)

@@ -3,9 +3,6 @@ use Rattle.primus_lwe.proofs.Coded.{encoded_at}
 use Rattle.lwe_secret_key.proofs.Runs.{rows_start, rows_more}
 use Rattle.primus_lwe_batch.proofs.message_batch.write_messages.Goals as goal
 
-pub invariant_of-ring : goal.invariant_of-ring
-invariant_of-ring c = record { positive = positive c.args.params.modulus c.requires.1.modulus_ok }
-
 pub loop-i-init : goal.loop-i-init
 loop-i-init c = rows_start _ _ _ _ _ _ _ _ c.requires.0
 

@@ -7,9 +7,6 @@ use Rattle.primus_lwe.proofs.secret_key.borrowed.decrypt_phase.Goals as goal
 pub returns-in_err-decrypt_refusal : goal.returns-in_err-decrypt_refusal
 returns-in_err-decrypt_refusal c = rw (handed_on _ c.from_residual.ensures.1) (record { is = refused _ _ _ c.in_err-decrypt_refusal.ensures })
 
-pub invariant_of-ring : goal.invariant_of-ring
-invariant_of-ring c = record { positive = positive c.args.params.modulus (passed _ (sym c.in_ok-decrypt_refusal.ensures) 2 tt) }
-
 pub returns : goal.returns
 returns c =
     record { is = served _ _ _ c.in_ok-decrypt_refusal.ensures (rw (body_at _ _ (passed _ (sym c.in_ok-decrypt_refusal.ensures) 10 tt)) at c.phase.ensures) }

@@ -8,9 +8,6 @@ use Rattle.primus_lwe.proofs.secret_key.borrowed.encrypt_encoded_to.Goals as goa
 pub returns-in_err-encrypt_refusal : goal.returns-in_err-encrypt_refusal
 returns-in_err-encrypt_refusal c = rw (handed_on _ c.from_residual.ensures.1) (record { writes = refused c.in_err-encrypt_refusal.ensures })
 
-pub invariant_of-ring : goal.invariant_of-ring
-invariant_of-ring c = record { positive = positive c.args.params.modulus (passed _ (sym c.in_ok-encrypt_refusal.ensures) 2 tt) }
-
 pub encrypt_to-requires : goal.encrypt_to-requires
 encrypt_to-requires c = let no = passed _ (sym c.in_ok-encrypt_refusal.ensures) in room_ok _ _ _ _ (no 11 tt) (no 12 tt)
 

@@ -11,9 +11,6 @@ pub returns-in_err-decrypt_refusal : goal.returns-in_err-decrypt_refusal
 returns-in_err-decrypt_refusal c =
     rw (handed_on _ c.from_residual.ensures.1) (record { is = refused _ _ _ (rw c.into.ensures at c.in_err-decrypt_refusal.ensures) })
 
-pub invariant_of-phase : goal.invariant_of-phase
-invariant_of-phase c = record { positive = positive c.args.params.modulus (passed _ (sym (rw c.into.ensures at c.in_ok-decrypt_refusal.ensures)) 2 tt) }
-
 pub returns : goal.returns
 returns c =
     let accepted = rw c.into.ensures at c.in_ok-decrypt_refusal.ensures in

@@ -9,9 +9,6 @@ use Rattle.primus_lwe.proofs.secret_key.message.encrypt_message_to.Goals as goal
 pub returns-in_err-message_refusal : goal.returns-in_err-message_refusal
 returns-in_err-message_refusal c = rw (handed_on _ c.from_residual.ensures.1) (record { writes = refused c.in_err-message_refusal.ensures })
 
-pub invariant_of-encrypt_to : goal.invariant_of-encrypt_to
-invariant_of-encrypt_to c = record { positive = positive c.args.params.modulus (passed _ (sym c.in_ok-message_refusal.ensures) 2 tt) }
-
 pub encrypt_to-requires : goal.encrypt_to-requires
 encrypt_to-requires c = let no = passed _ (sym c.in_ok-message_refusal.ensures) in room_ok _ _ _ _ (no 11 tt) (no 12 tt)
 

@@ -9,9 +9,6 @@ use Rattle.primus_lwe_public_key.proofs.public_key.LwePublicKey.encrypt_encoded_
 pub returns-in_err-public_refusal : goal.returns-in_err-public_refusal
 returns-in_err-public_refusal c = rw (handed_on _ c.from_residual.ensures.1) (record { writes = refused c.in_err-public_refusal.ensures })
 
-pub invariant_of-ring : goal.invariant_of-ring
-invariant_of-ring c = record { positive = positive c.args.params.modulus (passed _ (sym c.in_ok-public_refusal.ensures) 2 tt) }
-
 pub write_public-requires : goal.write_public-requires
 write_public-requires c =
     let no = passed _ (sym c.in_ok-public_refusal.ensures) in

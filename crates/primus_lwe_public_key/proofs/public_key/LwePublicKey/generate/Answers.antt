@@ -8,9 +8,6 @@ use Rattle.primus_lwe_public_key.proofs.public_key.LwePublicKey.generate.Goals a
 pub returns-in_err-generate_refusal : goal.returns-in_err-generate_refusal
 returns-in_err-generate_refusal c = rw (handed_on _ c.from_residual.ensures.1) (record { writes = unwritten _ c.in_err-generate_refusal.ensures })
 
-pub invariant_of-ring : goal.invariant_of-ring
-invariant_of-ring c = record { positive = positive c.args.params.modulus (passed _ (sym c.in_ok-generate_refusal.ensures) 2 tt) }
-
 pub write_zeros-requires : goal.write_zeros-requires
 write_zeros-requires c = let no = passed _ (sym c.in_ok-generate_refusal.ensures) in generation_ok _ _ _ _ _ (no 9 tt) (no 11 tt) (no 12 tt)
 
