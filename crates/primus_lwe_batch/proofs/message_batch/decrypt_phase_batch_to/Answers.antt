@@ -2,7 +2,6 @@ use Rattle.std.proofs.Common.{sym, length}
 use Rattle.scheme.proofs.Checks.{length_ok}
 use Rattle.scheme.proofs.Order.{passed, done}
 use Rattle.check_order.proofs.Answers.{handed_on, unwritten}
-use Rattle.primus_lwe.proofs.Laws.{positive}
 use Rattle.primus_lwe_batch.proofs.Laws.{rows_ok}
 use Rattle.primus_lwe_batch.proofs.message_batch.decrypt_phase_batch_to.Goals as goal
 

@@ -1,4 +1,3 @@
-use Rattle.primus_lwe.proofs.Laws.{positive}
 use Rattle.primus_lwe.proofs.Coded.{encoded_at}
 use Rattle.lwe_secret_key.proofs.Runs.{rows_start, rows_more}
 use Rattle.primus_lwe_batch.proofs.message_batch.write_messages.Goals as goal

@@ -1,7 +1,7 @@
 use Rattle.std.proofs.Common.{sym}
 use Rattle.scheme.proofs.Order.{passed}
 use Rattle.check_order.proofs.Answers.{handed_on, refused, served}
-use Rattle.primus_lwe.proofs.Laws.{positive, body_at}
+use Rattle.primus_lwe.proofs.Laws.{body_at}
 use Rattle.primus_lwe.proofs.secret_key.borrowed.decrypt_phase.Goals as goal
 
 pub returns-in_err-decrypt_refusal : goal.returns-in_err-decrypt_refusal

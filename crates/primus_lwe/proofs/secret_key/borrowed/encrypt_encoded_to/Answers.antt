@@ -2,7 +2,7 @@ use Rattle.std.proofs.Common.{sym, length}
 use Rattle.scheme.proofs.Order.{passed}
 use Rattle.check_order.proofs.Answers.{handed_on}
 use Rattle.lwe_tag.proofs.Writes.{refused, done}
-use Rattle.primus_lwe.proofs.Laws.{positive, mask_ok, room_ok}
+use Rattle.primus_lwe.proofs.Laws.{mask_ok, room_ok}
 use Rattle.primus_lwe.proofs.secret_key.borrowed.encrypt_encoded_to.Goals as goal
 
 pub returns-in_err-encrypt_refusal : goal.returns-in_err-encrypt_refusal

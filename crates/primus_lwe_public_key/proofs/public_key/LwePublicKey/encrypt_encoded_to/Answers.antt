@@ -2,7 +2,6 @@ use Rattle.std.proofs.Common.{sym, length}
 use Rattle.scheme.proofs.Order.{passed}
 use Rattle.check_order.proofs.Answers.{handed_on}
 use Rattle.lwe_tag.proofs.Writes.{refused, done}
-use Rattle.primus_lwe.proofs.Laws.{positive}
 use Rattle.primus_lwe_public_key.proofs.Laws.{lent_ok, public_ok}
 use Rattle.primus_lwe_public_key.proofs.public_key.LwePublicKey.encrypt_encoded_to.Goals as goal
 

@@ -1,7 +1,6 @@
 use Rattle.std.proofs.Common.{sym, length}
 use Rattle.scheme.proofs.Order.{passed, done}
 use Rattle.check_order.proofs.Answers.{handed_on, unwritten}
-use Rattle.primus_lwe.proofs.Laws.{positive}
 use Rattle.primus_lwe_public_key.proofs.Laws.{lent_ok, generation_ok}
 use Rattle.primus_lwe_public_key.proofs.public_key.LwePublicKey.generate.Goals as goal
 
