@@ -10,6 +10,8 @@ mod refusal;
 
 pub use refusal::Refusal;
 
+// Stays: flags, no Results: each condition is judged before the order says which counts.
+
 // Numbers and lengths.
 #[derive(Clone, Copy)]
 pub struct Sizes {

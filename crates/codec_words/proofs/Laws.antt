@@ -2,21 +2,14 @@
 -- Assumes nothing.
 use Rattle.std.proofs.Common.{◌≡◌, ℕ, ◌-◌, ◌%◌, ◌^◌, ◌<◌, ◌≤◌, Bool, pos, refl, sym, ◌∙◌, ne_eqb, arith}
 use Rattle.scheme.specs.Numbers.{residue}
-use Rattle.scheme.specs.Modulus as S
 use Rattle.scheme.specs.Codec.{encode, encode_centered, centered_start}
 use Rattle.scheme.specs.Checks.{first_in}
 use Rattle.scheme.proofs.Codec.{encode-below, centered_below, centered_high, centered_low}
 use Rattle.scheme.proofs.Checks.{Coded, coded}
 use Rattle.scheme.proofs.Order.{Sized, late, passed}
-use Rattle.primus_reduce.specs.Ring.{meant, size_of, modulo}
+use Rattle.primus_reduce.specs.Ring.{meant, modulo}
 use Rattle.primus_reduce.specs.declared.modulus.Modulus.{Modulus}
-use Rattle.primus_reduce.specs.declared.modulus.Modulus.TheVariants as M
 use Rattle.codec_words.specs.Words.{size_rows}
-
--- q is at most 2^32
-pub size_most : (m : Modulus) → S.Fits 32 (meant m) → size_of m ≤ 2 ^ 32
-size_most M.Native f = omega arith
-size_most (M.Explicit q) f = omega arith
 
 -- what 2, 7 and 8 let through
 pub let_through : (t : ℕ) (m : Modulus) (b : Bool) → t < 2 ^ 32 → Sized (size_rows t m b) 0 → Coded 32 t (meant m)

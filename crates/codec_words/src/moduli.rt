@@ -51,7 +51,7 @@ impl Moduli {
     }
 
     // encode(m)
-    #[tactic(auto, using(crate::proofs::Laws::size_most, crate::proofs::Laws::encode_fits))]
+    #[tactic(auto, using(scheme::proofs::Modulus::size_most, crate::proofs::Laws::encode_fits))]
     pub fn encode(self, message: u32) -> u32
         requires { message < self.t }
         ensures { result ≡ encode (size_of self.modulus) self.t message }
@@ -60,7 +60,7 @@ impl Moduli {
     }
 
     // Centered: q − encode(t − m) from ⌈t/2⌉ on.
-    #[tactic(auto, using(crate::proofs::Laws::size_most, crate::proofs::Laws::encode_most, crate::proofs::Laws::high_fits, crate::proofs::Laws::centered_from, crate::proofs::Laws::centered_until))]
+    #[tactic(auto, using(scheme::proofs::Modulus::size_most, crate::proofs::Laws::encode_most, crate::proofs::Laws::high_fits, crate::proofs::Laws::centered_from, crate::proofs::Laws::centered_until))]
     pub fn encode_centered(self, message: u32) -> u32
         requires { message < self.t }
         ensures { result ≡ encode_centered (size_of self.modulus) self.t message }
@@ -73,7 +73,7 @@ impl Moduli {
     }
 
     // decode(p) = ⌊(2pt + q) / 2q⌋ mod t
-    #[tactic(auto, using(crate::proofs::Laws::size_most, crate::proofs::Laws::reduced))]
+    #[tactic(auto, using(scheme::proofs::Modulus::size_most, crate::proofs::Laws::reduced))]
     pub fn decode(self, value: u32) -> u32
         ensures { result ≡ decode (size_of self.modulus) self.t value }
     {

@@ -16,7 +16,7 @@ use primus_reduce::Modulus;
 #[derive(Clone, Copy)]
 pub struct ValueCarry {
     pub value: u32,
-    // Stays: a digit of the walk, no flag of the value beside it.
+    // Stays: a carry into the next window: the value holds either way.
     pub carry: bool,
 }
 

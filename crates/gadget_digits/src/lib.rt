@@ -11,7 +11,7 @@ ghost use Rattle.gadget_digits.specs.Column.{Column};
 #[derive(Clone, Copy)]
 pub struct SignedDecomposer {
     pub value: u32,
-    // Stays: a digit of the walk, no flag of the value beside it.
+    // Stays: a carry into the next window: the value holds either way.
     pub carry: bool,
     pub log_basis: u32,
     pub modulus_minus_basis: u32,
@@ -21,7 +21,7 @@ pub struct SignedDecomposer {
 #[derive(Clone, Copy)]
 pub struct Step {
     pub digit: u32,
-    // Stays: a digit of the walk, no flag of the value beside it.
+    // Stays: a carry into the next window: the value holds either way.
     pub carry: bool,
     pub next: SignedDecomposer,
 }

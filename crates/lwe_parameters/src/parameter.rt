@@ -11,14 +11,14 @@ use primus_lattice::LweDimension;
 use primus_reduce::Modulus;
 
 // Dimension n and modulus q: what a phase is taken with.
-#[derive(Clone, Copy)]
+#[derive(Clone, Copy, Debug, PartialEq, Eq)]
 pub struct LwePhaseParameters {
     pub dimension: LweDimension,
     pub modulus: Modulus,
 }
 
 // Dimension n, modulus q and plaintext modulus t: what a decryption is made with.
-#[derive(Clone, Copy)]
+#[derive(Clone, Copy, Debug, PartialEq, Eq)]
 pub struct LweDecryptionParameters {
     pub dimension: LweDimension,
     pub modulus: Modulus,
@@ -26,7 +26,7 @@ pub struct LweDecryptionParameters {
 }
 
 // Dimension n, modulus q and the limit E of errors.
-#[derive(Clone, Copy)]
+#[derive(Clone, Copy, Debug, PartialEq, Eq)]
 pub struct LweEncryptionParameters {
     pub dimension: LweDimension,
     pub modulus: Modulus,
@@ -34,7 +34,7 @@ pub struct LweEncryptionParameters {
 }
 
 // Dimension n, modulus q, plaintext modulus t and the limit E of errors.
-#[derive(Clone, Copy)]
+#[derive(Clone, Copy, Debug, PartialEq, Eq)]
 pub struct LweParameters {
     pub dimension: LweDimension,
     pub modulus: Modulus,

@@ -1,6 +1,6 @@
 -- The two ways through a call that writes ciphertexts, and what is known where it wrote.
 -- Assumes nothing.
-use Rattle.std.proofs.Common.{◌≡◌, sym, ◌∙◌, ℕ, List, Result, Ok, Err}
+use Rattle.std.proofs.Common.{◌≡◌, sym, ℕ, List, Ok, Err}
 use Rattle.scheme.specs.Checks.{Check, refusal, Writes}
 use Rattle.scheme.proofs.Order as O
 use Rattle.check_order.specs.declared.refusal.Refusal.{Refusal}
@@ -18,8 +18,3 @@ module _ {rows : List Check} {tag : LweTag} {result before : List ℕ} where
   pub done : {g : LweTag} {after : List ℕ} → 0 ≡ refusal rows → g ≡ tag → after ≡ result
       → WritesTagged rows tag result before (Ok g) after
   done {g} h f w = record { answered = A.served rows g tag h f; holds = O.given _ _ _ _ (sym h) w }
-
-  -- a result that is another where no number applies
-  pub writes_by : {other : List ℕ} {given : Result LweTag Refusal} {after : List ℕ} → (refusal rows ≡ 0 → result ≡ other)
-      → WritesTagged rows tag result before given after → WritesTagged rows tag other before given after
-  writes_by f w = record { answered = w.answered; holds = w.holds ∙ O.pick_by (refusal rows) _ _ before f }

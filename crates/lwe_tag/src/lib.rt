@@ -15,12 +15,13 @@ use primus_reduce::Modulus;
 
 // One number of 64 bits, 2^64 − 1 where there is no tally: as C holds it and as files save it.
 #[repr(C)]
-#[derive(Clone, Copy)]
+#[derive(Clone, Copy, Debug, PartialEq, Eq)]
 pub struct LweTag {
     tally: u64,
 }
 
 // The number that stands for no tally.
+// Stays: a number for none: C and files hold a tag as 64 bits.
 const NO_TALLY: u64 = u64::MAX;
 
 // 17 refuses a tally, given or summed, above this.

@@ -21,6 +21,7 @@ pub struct PoolParameters {
 }
 
 // 19: no ciphertexts of one message each, or made with another q or t.
+// Stays: numbers compared: a file's modulus is a number, and there `Explicit(0)` and native are the same one.
 fn is_other(h: Head, modulus: Modulus, plaintext_modulus: u32) -> bool
     ensures { result ≡ other_fails h modulus plaintext_modulus }
 {

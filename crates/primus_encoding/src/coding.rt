@@ -80,6 +80,7 @@ fn write_words(coding: Coding, moduli: Moduli, input: &[u32], output: &mut [u32]
     }
 }
 
+// Stays: no call of `write_words`: in place the input is the output, which no two slices can share.
 #[tactic(auto, using(scheme::proofs::InPlace::filled_end))]
 fn replace_words(coding: Coding, moduli: Moduli, values: &mut [u32])
     requires { messages_fault coding moduli.t values.old ≡ false }

@@ -6,7 +6,7 @@ ghost use Rattle.primus_lattice.specs.Answers.{dimension_answer, given};
 use check_order::Refusal;
 
 // n, the number of mask words.
-#[derive(Clone, Copy)]
+#[derive(Clone, Copy, Debug, PartialEq, Eq)]
 pub struct LweDimension(usize);
 
 // 6: outside the limits of the kind.

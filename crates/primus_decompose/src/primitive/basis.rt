@@ -27,7 +27,7 @@ pub struct ApproxSignedBasis {
 }
 
 impl ApproxSignedBasis {
-    // Refuses by 1, 2, 3, 4, 5.
+    // Refuses by 1 to 3, 5.
     #[tactic(auto, using(check_order::proofs::Answers::served))]
     pub fn try_new(
         modulus: Modulus,
