@@ -42,6 +42,13 @@ pub fn runs_differ(len: usize, count: usize, width: usize) -> bool
     len / width != count
 }
 
+// 12: there are not `count` masks of n words, or not `count` errors.
+pub fn masks_or_errors_differ(masks: usize, errors: usize, count: usize, n: usize) -> bool
+    ensures { result ≡ (length_fails errors count || length_fails masks (count * n)) }
+{
+    (errors != count) | runs_differ(masks, count, n)
+}
+
 // 10: `len` is not a multiple of n + 1. No sum where it could overflow.
 #[tactic(auto, using(crate::proofs::Laws::batch_short))]
 pub fn batch_differs(len: usize, n: usize) -> bool

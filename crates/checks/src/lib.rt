@@ -8,7 +8,7 @@ ghost use Rattle.primus_reduce.specs.Ring.{meant, size_of};
 
 pub use check_lengths::{
     batch_count, batch_differs, ciphertext_differs, ciphertexts_differ, length_differs,
-    lengths_differ, runs_differ,
+    lengths_differ, masks_or_errors_differ, runs_differ,
 };
 use primus_reduce::Modulus;
 

@@ -3,6 +3,5 @@
 #![tactic(auto)]
 
 mod message_batch;
-mod sizes;
 
 pub use message_batch::{decrypt_refusal, encrypt_refusal};

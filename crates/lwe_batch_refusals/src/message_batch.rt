@@ -6,7 +6,6 @@ ghost use Rattle.check_order.specs.Answer.{code_of};
 ghost use Rattle.lwe_parameters.specs.Answers.{judged_rows};
 ghost use Rattle.lwe_batch_refusals.specs.Rows.{encrypt_batch_rows, batch_rows};
 
-use crate::sizes;
 use check_order::{Refusal, Values};
 use lwe_parameters::{LweParameters, LwePhaseParameters};
 
@@ -23,10 +22,11 @@ pub fn encrypt_refusal(
         errors.now messages.now room) }
 {
     let count = messages.len();
+    let n = params.dimension.get();
     let mut s = params.sizes();
     s.key = params.dimension.differs(secret.len());
-    s.output = sizes::output_differs(room, count, params.dimension);
-    s.lent = sizes::lent_differs(masks.len(), errors.len(), count, params.dimension);
+    s.output = checks::ciphertexts_differ(room, count, n);
+    s.lent = checks::masks_or_errors_differ(masks.len(), errors.len(), count, n);
     s.judge()?;
     let mut v = Values::NONE;
     v.word = checks::both_refused(params.modulus, secret, masks);
@@ -47,10 +47,11 @@ pub fn decrypt_refusal(
         ++ batch_rows params.modulus params.dimension.0 (Words secret.now) input.now
         room) }
 {
+    let n = params.dimension.get();
     let mut s = params.sizes_with(plaintext_modulus);
     s.key = params.dimension.differs(secret.len());
-    s.input = sizes::input_differs(input.len(), params.dimension);
-    s.output = sizes::count_differs(room, input.len(), params.dimension);
+    s.input = checks::batch_differs(input.len(), n);
+    s.output = room != checks::batch_count(input.len(), n);
     s.judge()?;
     let mut v = Values::NONE;
     v.word = checks::both_refused(params.modulus, secret, input);

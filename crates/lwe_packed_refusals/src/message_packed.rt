@@ -26,7 +26,7 @@ pub fn packed_message_refusal(
     s.key = dimension.differs(secret.len());
     s.input = packed::count_refused(dimension, count);
     s.output = packed::room_differs(dimension, room, count);
-    s.lent = packed::lent_differs(dimension, mask.len(), errors.len(), count);
+    s.lent = checks::lengths_differ(mask.len(), dimension.get(), errors.len(), count);
     s.judge()?;
     let mut v = Values::NONE;
     v.word = checks::both_refused(params.modulus, secret, mask);

@@ -1,6 +1,6 @@
 // Phases and messages of a packed ciphertext.
 ghost use Rattle.std.specs.Prelude.{◌≡◌, ◌-◌};
-ghost use Rattle.scheme.specs.Checks.{refusal, length_fails, packed_fails};
+ghost use Rattle.scheme.specs.Checks.{refusal, length_fails};
 ghost use Rattle.check_order.specs.Answer.{code_of};
 ghost use Rattle.lwe_packed_refusals.specs.Rows.{packed_phase_rows, packed_decrypt_rows, packed_opening_rows};
 
@@ -8,13 +8,6 @@ use check_order::{Refusal, Values};
 use lwe_parameters::{LweDecryptionParameters, LwePhaseParameters};
 use lwe_samples::packed_refused;
 use primus_lattice::LweDimension;
-
-// 10: fewer than n words, or more than n bodies.
-fn input_refused(dimension: LweDimension, len: usize) -> bool
-    ensures { result ≡ packed_fails len dimension.0 }
-{
-    packed_refused(len, dimension.get())
-}
 
 // 11: `room` is not a word for each body of an input of `len` words.
 fn output_differs(dimension: LweDimension, room: usize, len: usize) -> bool
@@ -37,7 +30,7 @@ fn opening_refusal(
     let dimension = params.dimension;
     let mut s = params.sizes_with(plaintext_modulus);
     s.key = dimension.differs(secret.len());
-    s.input = input_refused(dimension, input.len());
+    s.input = packed_refused(input.len(), dimension.get());
     s.output = output_differs(dimension, room, input.len());
     s.judge()?;
     let mut v = Values::NONE;

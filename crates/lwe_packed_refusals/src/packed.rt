@@ -25,18 +25,6 @@ pub(crate) fn room_differs(dimension: LweDimension, room: usize, count: usize) -
     room < n || room - n != count
 }
 
-// 12: the mask does not have n words, or there is not an error for each body.
-pub(crate) fn lent_differs(
-    dimension: LweDimension,
-    mask: usize,
-    errors: usize,
-    count: usize,
-) -> bool
-    ensures { result ≡ (length_fails errors count || length_fails mask dimension.0) }
-{
-    (errors != count) | dimension.differs(mask)
-}
-
 // 14: of the key, the mask and the plaintexts.
 fn words_refused(modulus: Modulus, secret: &[u32], mask: &[u32], plaintexts: &[u32]) -> bool
     ensures { result ≡ ((words_fail (size_of modulus) plaintexts.now
@@ -64,7 +52,7 @@ pub fn packed_refusal(
     s.key = dimension.differs(secret.len());
     s.input = count_refused(dimension, count);
     s.output = room_differs(dimension, room, count);
-    s.lent = lent_differs(dimension, mask.len(), errors.len(), count);
+    s.lent = checks::lengths_differ(mask.len(), dimension.get(), errors.len(), count);
     s.judge()?;
     let mut v = Values::NONE;
     v.word = words_refused(params.modulus, secret, mask, plaintexts);

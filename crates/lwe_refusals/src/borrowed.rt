@@ -1,6 +1,6 @@
 // An encoded plaintext, and phases.
 ghost use Rattle.std.specs.Prelude.{◌≡◌, ◌||◌, ◌++◌};
-ghost use Rattle.scheme.specs.Checks.{refusal, length_fails, word_fails, words_fail, key_fails};
+ghost use Rattle.scheme.specs.Checks.{refusal, word_fails, words_fail, key_fails};
 ghost use Rattle.primus_reduce.specs.Ring.{size_of};
 ghost use Rattle.check_order.specs.Answer.{code_of};
 ghost use Rattle.lwe_secret_key.specs.Key.{key_of};
@@ -10,15 +10,7 @@ ghost use Rattle.lwe_parameters.specs.Answers.{judged_rows};
 use check_order::{Refusal, Values};
 use lwe_parameters::{LweEncryptionParameters, LwePhaseParameters};
 use lwe_secret_key::LweSecretKeyRef;
-use primus_lattice::LweDimension;
 use primus_reduce::Modulus;
-
-// 12: the mask does not have n words, or there is not one error.
-pub(crate) fn lent_differs(mask: usize, errors: usize, dimension: LweDimension) -> bool
-    ensures { result ≡ (length_fails errors 1 || length_fails mask dimension.0) }
-{
-    (errors != 1) | dimension.differs(mask)
-}
 
 // 14: of the key, the mask and the plaintext.
 fn word_refused(key: LweSecretKeyRef, modulus: Modulus, mask: &[u32], plaintext: u32) -> bool
@@ -42,7 +34,7 @@ pub fn encrypt_refusal(
     let mut s = params.sizes();
     s.key = key.differs(params.dimension);
     s.output = params.dimension.ciphertext_differs(room);
-    s.lent = lent_differs(mask.len(), errors.len(), params.dimension);
+    s.lent = checks::lengths_differ(mask.len(), params.dimension.get(), errors.len(), 1);
     s.judge()?;
     let mut v = Values::NONE;
     v.word = word_refused(key, params.modulus, mask, plaintext);

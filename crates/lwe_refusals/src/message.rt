@@ -5,7 +5,6 @@ ghost use Rattle.check_order.specs.Answer.{code_of};
 ghost use Rattle.lwe_secret_key.specs.Key.{key_of};
 ghost use Rattle.lwe_refusals.specs.Rows.{message_rows};
 
-use crate::borrowed;
 use check_order::{Refusal, Values};
 use lwe_parameters::LweParameters;
 use lwe_secret_key::LweSecretKeyRef;
@@ -24,7 +23,7 @@ pub fn message_refusal(
     let mut s = params.sizes();
     s.key = key.differs(params.dimension);
     s.output = params.dimension.ciphertext_differs(room);
-    s.lent = borrowed::lent_differs(mask.len(), errors.len(), params.dimension);
+    s.lent = checks::lengths_differ(mask.len(), params.dimension.get(), errors.len(), 1);
     s.judge()?;
     let mut v = Values::NONE;
     v.word = key.refused_with(params.modulus, mask);

@@ -1,5 +1,5 @@
 // The public key: n encryptions of 0, one after the other. Encryption adds and subtracts its rows.
-ghost use Rattle.std.specs.Prelude.{◌≡◌, ◌||◌, ◌+◌, ◌*◌, length};
+ghost use Rattle.std.specs.Prelude.{◌≡◌, ◌||◌, ◌+◌, length};
 ghost use Rattle.scheme.specs.Checks.{refusal, length_fails, word_fails, words_fail, errors_fail, coefficients_fail};
 ghost use Rattle.primus_reduce.specs.Ring.{size_of};
 ghost use Rattle.check_order.specs.Answer.{code_of};
@@ -20,22 +20,6 @@ use primus_reduce::{Modulus, Ring};
 #[derive(Clone, Copy)]
 pub struct LwePublicKey {}
 
-// 9, 11: `len` is not n rows of n + 1.
-fn rows_differ(len: usize, dimension: LweDimension) -> bool
-    ensures { result ≡ length_fails len (dimension.0 * (dimension.0 + 1)) }
-{
-    let n = dimension.get();
-    checks::ciphertexts_differ(len, n, n)
-}
-
-// 12: there are not n masks of n words, or not n errors.
-fn masks_or_errors_differ(masks: usize, errors: usize, dimension: LweDimension) -> bool
-    ensures { result ≡ (length_fails errors dimension.0 || length_fails masks (dimension.0 * dimension.0)) }
-{
-    let n = dimension.get();
-    dimension.differs(errors) | checks::runs_differ(masks, n, n)
-}
-
 fn generate_refusal(
     params: LweEncryptionParameters,
     secret: LweSecretKeyRef,
@@ -47,10 +31,11 @@ fn generate_refusal(
         masks.now errors.now room) }
 {
     let dimension = params.dimension;
+    let n = dimension.get();
     let mut s = params.sizes();
     s.key = secret.differs(dimension);
-    s.output = rows_differ(room, dimension);
-    s.lent = masks_or_errors_differ(masks.len(), errors.len(), dimension);
+    s.output = checks::ciphertexts_differ(room, n, n);
+    s.lent = checks::masks_or_errors_differ(masks.len(), errors.len(), n, n);
     s.judge()?;
     let mut v = Values::NONE;
     v.word = secret.refused_with(params.modulus, masks);
@@ -92,8 +77,9 @@ fn public_refusal(
         coefficients.now plaintext room) }
 {
     let dimension = params.dimension;
+    let n = dimension.get();
     let mut s = params.sizes();
-    s.key = rows_differ(key.len(), dimension);
+    s.key = checks::ciphertexts_differ(key.len(), n, n);
     s.output = dimension.ciphertext_differs(room);
     s.lent = lent_differs(errors.len(), coefficients.len(), dimension);
     s.judge()?;
@@ -115,8 +101,9 @@ fn public_message_refusal(
         coefficients.now message room) }
 {
     let dimension = params.dimension;
+    let n = dimension.get();
     let mut s = params.sizes();
-    s.key = rows_differ(key.len(), dimension);
+    s.key = checks::ciphertexts_differ(key.len(), n, n);
     s.output = dimension.ciphertext_differs(room);
     s.lent = lent_differs(errors.len(), coefficients.len(), dimension);
     s.judge()?;
