@@ -11,7 +11,7 @@ use lib.Seq.{get_or-take, get_or-drop, length-take-le}
 use borrow.Author.Tests.{ne_eqb}
 use Rattle.scheme.specs.Numbers.{pick, residue, sum_to}
 use Rattle.scheme.specs.Lwe.{words, rotated, packed_phase}
-use Rattle.scheme.proofs.Residue.{cong_refl, cong_of_eq, cong_trans, cong_add, residue_cong}
+use Rattle.scheme.proofs.Residue.{cong_refl, cong_add, residue_cong}
 use Rattle.scheme.proofs.Sums.{sum_ext}
 use Rattle.scheme.proofs.Lists.{is-tabulate}
 use Rattle.scheme.proofs.Lwe.{cong_sub}
@@ -57,20 +57,22 @@ rotated_mask n i x s h =
     ap₂ ◌-ℤ◌ (sum_ext (n - i) _ _ (λ j l. ap (λ (z : ℕ). pos z *ℤ s (j + i)) (get_or-take n x j 0 (omega arith))))
     (sum_ext i _ _ (λ k l. ap (λ (z : ℕ). pos z *ℤ s k) (get_or-take n x (n - i + k) 0 (omega arith))))
 
-pub phase_is : (q n i : ℕ) (x mask bodies : List ℕ) (s : ℕ → ℤ) (product : ℕ) {r : ℕ} → 0 < q → i < n → length mask ≡ n
+-- a phase, from the word that stands for the mask product
+pub phase_is : (q b product : ℕ) (a : ℤ) {r : ℕ} → 0 < q → product ≡ modulo q a → r ≡ modulo q (pos b -ℤ pos product) → r ≡ residue (pos b -ℤ a) q
+phase_is q b product a h ep er =
+    er ∙ rw (ne_eqb q 0 (λ f. omega arith)) (residue_cong h (cong_sub (cong_refl q (pos b)) (modulo_stands h a ep)))
+
+-- the phase of body i of a ciphertext, cut into its mask and its bodies
+pub phase_of_input : (q n i : ℕ) (x mask bodies : List ℕ) (s : ℕ → ℤ) {r : ℕ} → i < n → length mask ≡ n
     → mask ≡ take n x → bodies ≡ drop n x
-    → product ≡ modulo q (rotated (length mask) mask s i) → r ≡ modulo q (pos (get_or bodies i 0) -ℤ pos product) → r ≡ packed_phase q n x s i
+    → r ≡ residue (pos (get_or bodies i 0) -ℤ rotated (length mask) mask s i) q → r ≡ packed_phase q n x s i
 unfolding packed_phase
-phase_is q n i x mask bodies s product h l size me be ep er =
+phase_of_input q n i x mask bodies s l size me be er =
     er
-    ∙ rw (ne_eqb q 0 (λ f. omega arith))
-    (residue_cong h
-    (cong_sub (cong_of_eq q (ap (λ xs. pos (get_or xs i 0)) be ∙ ap pos (get_or-drop n x i 0)))
-    (modulo_stands h _ (ep ∙ ap (modulo q) (ap₂ (λ (m : ℕ) (a : List ℕ). rotated m a s i) size me ∙ rotated_mask n i x s l)))))
+    ∙ ap (λ z. residue z q)
+    (ap₂ ◌-ℤ◌ (ap (λ xs. pos (get_or xs i 0)) be ∙ ap pos (get_or-drop n x i 0)) (ap₂ (λ (m : ℕ) (a : List ℕ). rotated m a s i) size me ∙ rotated_mask n i x s l))
 
 -- body i, from the words that stand for its mask product and its error
-pub body_is : (q z : ℕ) (a e : ℤ) (x w y : ℕ) {r : ℕ} → 0 < q → x ≡ modulo q a → w ≡ modulo q e
-    → y ≡ modulo q (pos x +ℤ pos w) → r ≡ modulo q (pos y +ℤ pos z) → r ≡ residue (a +ℤ e +ℤ pos z) q
-body_is q z a e x w y h ex ew ey er =
-    er
-    ∙ rw (ne_eqb q 0 (λ f. omega arith)) (residue_cong h (cong_add (cong_trans (modulo_stands h _ ey) (cong_add (modulo_stands h a ex) (modulo_stands h e ew))) (cong_refl q (pos z))))
+pub body_is : (q z : ℕ) (a e : ℤ) (x w : ℕ) {r : ℕ} → 0 < q → x ≡ modulo q a → w ≡ modulo q e
+    → r ≡ residue (pos x +ℤ pos w +ℤ pos z) q → r ≡ residue (a +ℤ e +ℤ pos z) q
+body_is q z a e x w h ex ew er = er ∙ residue_cong h (cong_add (cong_add (modulo_stands h a ex) (modulo_stands h e ew)) (cong_refl q (pos z)))

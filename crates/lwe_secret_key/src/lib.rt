@@ -6,3 +6,4 @@ mod key;
 mod steps;
 
 pub use key::LweSecretKeyRef;
+pub use steps::body;

@@ -20,7 +20,7 @@ fn write(out: &mut [u32], mask: &[u32], body: u32)
 
 // sum + e + p, where the words sum and e stand for ⟨a, s⟩ and the error modulo q.
 #[tactic(auto, using(crate::proofs::Laws::body_is))]
-fn body(sum: u32, error: u32, plaintext: u32, ring: Ring) -> u32
+pub fn body(sum: u32, error: u32, plaintext: u32, ring: Ring) -> u32
     ensures { result ≡ residue (pos sum +ℤ pos error +ℤ pos plaintext) (size_of ring.modulus) }
 {
     let modulus = ring.modulus;
