@@ -1,14 +1,15 @@
 -- Rows of a public key, written one by one, and added to a ciphertext one by one.
 -- Assumes nothing.
-use mathlib.Core.Path.{◌≡◌, sym, ap, ◌∙◌}
+use mathlib.Core.Path.{◌≡◌, refl, sym, ap, ◌∙◌}
 use mathlib.Core.List.{List, zip_with}
 use Prim.Native.Nat.{ℕ, ◌+◌, ◌*◌, ◌-◌, ◌≤◌, ◌<◌}
 use native.Mathlib.Nat.{mod-eq_of_lt}
 use native.Mathlib.Omega.{arith}
+use native.Mathlib.Decide.{ℕ_discrete}
 use lib.Dec.{eqb}
 use lib.IntN.{ℤ, pos, ◌+ℤ◌, +ℤ_idr, zero-*ℤ}
-use lib.ListN.{length, get_or, take, drop}
-use lib.Seq.{ext_get_or}
+use lib.ListN.{length, get_or, set, take, drop, length-set}
+use lib.Seq.{ext_get_or, get_or-set_same, get_or-set_other}
 use borrow.Author.Tests.{eq-eqb, ne_eqb}
 use Rattle.scheme.specs.Numbers.{pick, residue, tabulate}
 use Rattle.scheme.specs.Lwe.{signed}
@@ -38,24 +39,32 @@ is_zip f xs ys zs e l h =
     ext_get_or 0 zs (zip_with f xs ys) (l ∙ sym (length_zip f xs ys e))
     (λ i k. h i (omega arith) ∙ sym (zip_at f xs ys i e (omega arith)))
 
-pub ruleset tables = (is-tabulate)
-
 -- word k before any row
 module _ (q n k : ℕ) (f : ℕ → ℤ) (h : 0 < q) (error : ℕ) (e : error ≡ modulo q (f k)) where
-  pub start_body : (p : ℕ) {r : ℕ} → k ≡ n → r ≡ modulo q (pos error +ℤ pos p) → r ≡ start_word q n f p k
+  start_body : (p : ℕ) {r : ℕ} → k ≡ n → r ≡ modulo q (pos error +ℤ pos p) → r ≡ start_word q n f p k
   unfolding start_word
   start_body p z er =
       er ∙ modulo_plain q (pos error +ℤ pos p) h
       ∙ residue_cong h (cong_add (modulo_stands h (f k) e) (cong_of_eq q (sym (ap (λ b. pick b (pos p) (pos 0)) (eq-eqb k n z)))))
 
-  pub start_mask : (p : ℕ) → (k ≡ n → ⊥) → error ≡ start_word q n f p k
+  start_mask : (p : ℕ) → (k ≡ n → ⊥) → error ≡ start_word q n f p k
   unfolding start_word
   start_mask p z =
       e ∙ modulo_plain q (f k) h ∙ ap (λ x. residue x q) (sym (ap (λ b. f k +ℤ pick b (pos p) (pos 0)) (ne_eqb k n z) ∙ +ℤ_idr (f k)))
 
+-- the errors as words, and p added to the last
+pub started : (q p w : ℕ) (f : ℕ → ℤ) (xs : List ℕ) (v : ℕ) → 0 < q → 0 < w → length xs ≡ w → ((k : ℕ) → k < w → get_or xs k 0 ≡ modulo q (f k))
+    → v ≡ modulo q (pos (get_or xs (w - 1) 0) +ℤ pos p) → set xs (w - 1) v ≡ tabulate w (start_word q (w - 1) f p)
+started q p w f xs v h some size at ev = is-tabulate w _ _ (length-set xs (w - 1) v ∙ size) (λ k l. go k l (ℕ_discrete k (w - 1)))
+  where
+    go : (k : ℕ) → k < w → Dec (k ≡ w - 1) → get_or (set xs (w - 1) v) k 0 ≡ start_word q (w - 1) f p k
+    go k l (yes z) =
+        rw z (get_or-set_same xs (w - 1) v 0 (omega (arith, some, size)) ∙ start_body q (w - 1) (w - 1) f h _ (at (w - 1) (omega (arith, some))) p refl ev)
+    go k l (no z) = get_or-set_other xs (w - 1) k v 0 z ∙ start_mask q (w - 1) k f h _ (at k l) p z
+
 module _ (q n : ℕ) (key : List ℕ) (es rs : List ℤ) (room : ℕ) (positive : 0 < q) (ok : Public n key rs room) (p : ℕ) where
   -- before the first row
-  pub public_start : (x : List ℕ) → x ≡ tabulate room (start_word q n (signed es) p) → Upto q n key (signed es) (pos p) (signed rs) 0 x
+  pub public_start : (x : List ℕ) → x ≡ tabulate room (start_word q (room - 1) (signed es) p) → Upto q n key (signed es) (pos p) (signed rs) 0 x
   unfolding start_word
   public_start x e =
       upto_start q positive n key (signed es) (pos p) (signed rs) x (ap length e ∙ length-tabulate room _ ∙ ok.fits)
@@ -63,7 +72,7 @@ module _ (q n : ℕ) (key : List ℕ) (es rs : List ℤ) (room : ℕ) (positive 
       (λ k a. rw (word k a) (residue_lt (signed es k +ℤ pick (eqb k n) (pos p) (pos 0)) q positive))
     where
       word : (k : ℕ) → k ≤ n → get_or x k 0 ≡ start_word q n (signed es) p k
-      word k a = ap (λ l. get_or l k 0) e ∙ get_d_tabulate room (start_word q n (signed es) p) k (omega (arith, ok.fits))
+      word k a = ap (λ l. get_or l k 0) e ∙ get_d_tabulate room (start_word q (room - 1) (signed es) p) k (omega (arith, ok.fits)) ∙ ap (λ m. start_word q m (signed es) p k) (omega (arith, ok.fits))
 
   module _ (i : ℕ) (x : List ℕ) (u : Upto q n key (signed es) (pos p) (signed rs) i x) (h : i < n) where
     pub public_part : i * (n + 1) + (n + 1) ≤ length key

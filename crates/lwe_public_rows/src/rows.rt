@@ -1,5 +1,5 @@
 // The rows of a public key, written one after the other, and added to a ciphertext or taken away from it.
-ghost use Rattle.std.specs.Prelude.{◌≡◌, ◌+◌, ◌*◌, ◌<◌, pos, nat_abs, length, get_or};
+ghost use Rattle.std.specs.Prelude.{◌≡◌, ◌+◌, ◌-◌, ◌*◌, ◌<◌, pos, nat_abs, length, get_or};
 ghost use mathlib.Core.List.{zip_with};
 ghost use Rattle.scheme.specs.Numbers.{tabulate};
 ghost use Rattle.scheme.specs.Lwe.{signed as errorsOf, secret_of, key_length, public_key, public_encrypted};
@@ -24,26 +24,18 @@ pub fn write_zeros(out: &mut [u32], key: LweSecretKeyRef, masks: &[u32], errors:
     }
 }
 
-// Word k before any row: error k, and in the body the plaintext too.
-#[tactic(auto, using(crate::proofs::Laws::start_body, crate::proofs::Laws::start_mask))]
-fn start_word(errors: &[i32], plaintext: u32, k: usize, n: usize, ring: Ring) -> u32
-    ensures { result ≡ start_word (size_of ring.modulus) n (errorsOf errors.now) plaintext k }
-{
-    let error = Factor::residue_at(errors, k, ring.modulus);
-    if k == n {
-        return ring.modulus.reduce_add(error, plaintext);
-    }
-    error
-}
-
-#[tactic(auto, using(crate::proofs::Laws::tables))]
-fn start(out: &mut [u32], errors: &[i32], plaintext: u32, n: usize, ring: Ring)
+// Before any row: the errors, and in the body the plaintext too.
+#[tactic(auto, using(crate::proofs::Laws::started))]
+fn start(out: &mut [u32], errors: &[i32], plaintext: u32, ring: Ring)
+    requires { 0 < length out.old }
     ensures { out.new ≡ tabulate (length out.old)
-        (start_word (size_of ring.modulus) n (errorsOf errors.now) plaintext) }
+        (start_word (size_of ring.modulus) (length out.old - 1) (errorsOf errors.now) plaintext) }
 {
     for (k, x) in out.iter_mut().enumerate() {
-        *x = start_word(errors, plaintext, k, n, ring);
+        *x = Factor::residue_at(errors, k, ring.modulus);
     }
+    let last = out.len() - 1;
+    out[last] = ring.modulus.reduce_add(out[last], plaintext);
 }
 
 // x + r × y for a coefficient r, one of −1, 0, 1.
@@ -83,7 +75,7 @@ pub fn write_public(
         key.now (errorsOf errors.now) (pos plaintext) (errorsOf coefficients.now) }
 {
     let n = coefficients.len();
-    start(out, errors, plaintext, n, ring);
+    start(out, errors, plaintext, ring);
     for (i, r) in coefficients.iter().enumerate() {
         let at = i * (n + 1);
         add_multiple(out, &key[at..at + (n + 1)], *r, ring);

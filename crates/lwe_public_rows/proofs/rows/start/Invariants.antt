@@ -1,8 +1,7 @@
 use Rattle.std.proofs.Common.{◌≡◌, ◌<◌, ℕ, get_or}
 use Rattle.scheme.specs.Lwe.{signed}
-use Rattle.primus_reduce.specs.Ring.{size_of}
-use Rattle.lwe_public_rows.specs.Public.{start_word}
+use Rattle.primus_reduce.specs.Ring.{size_of, modulo}
 use Rattle.lwe_public_rows.proofs.rows.start.Given as goal
 
 abbrev pub invariant-loop-k : goal.invariant-loop-k
-invariant-loop-k l = (j : ℕ) → j < l.k → get_or l.out j 0 ≡ start_word (size_of l.ring.modulus) l.n (signed l.errors) l.plaintext j
+invariant-loop-k l = (j : ℕ) → j < l.k → get_or l.out j 0 ≡ modulo (size_of l.fn.ring.modulus) (signed l.errors j)
