@@ -3,8 +3,8 @@
 use Rattle.std.specs.Prelude.{ℕ, eqb}
 use Rattle.scheme.specs.Numbers.{pick}
 use Rattle.primus_reduce.specs.Ring.{modulus_for}
-use Rattle.primus_encoding.specs.declared.PlaintextEmbedding.{PlaintextEmbedding}
-use Rattle.primus_encoding.specs.declared.PlaintextEmbedding.TheVariants.{Unsigned, Centered}
+use Rattle.codec_words.specs.declared.embedding.PlaintextEmbedding.{PlaintextEmbedding}
+use Rattle.codec_words.specs.declared.embedding.PlaintextEmbedding.TheVariants.{Unsigned, Centered}
 use Rattle.primus_lattice.specs.Answers.{given}
 use Rattle.lwe_parameters.specs.declared.parameter.LweEncryptionParameters.{LweEncryptionParameters}
 use Rattle.lwe_parameters.specs.declared.parameter.LweParameters.{LweParameters}

@@ -1,6 +1,7 @@
 -- Laws of the words of a codec.
 -- Assumes nothing.
-use Rattle.std.proofs.Common.{◌≡◌, ℕ, ◌-◌, ◌%◌, ◌^◌, ◌<◌, ◌≤◌, Bool, pos, refl, sym, ◌∙◌, ne_eqb, arith}
+use Rattle.std.proofs.Common.{◌≡◌, ℕ, ◌-◌, ◌%◌, ◌^◌, ◌<◌, ◌≤◌, Bool, pos, refl, sym, ◌∙◌, ne_eqb, arith, List, map, length}
+use Rattle.std.proofs.lemmas.List.{length-map}
 use Rattle.scheme.specs.Numbers.{residue}
 use Rattle.scheme.specs.Codec.{encode, encode_centered, centered_start}
 use Rattle.scheme.specs.Checks.{first_in}
@@ -39,3 +40,7 @@ module _ (t q x n : ℕ) (h : x < t) (k : t < q) (en : n ≡ centered_start t) w
 pub reduced : (t x r : ℕ) → 2 ≤ t → r ≡ modulo t (pos x) → r ≡ x % t
 unfolding residue
 reduced t x r h e = e ∙ rw (ne_eqb t 0 (λ z. omega arith)) refl
+
+-- as many words are decoded
+pub mapped_length : (f : ℕ → ℕ) (xs : List ℕ) → length (map f xs) ≡ length xs
+mapped_length f xs = length-map xs f

@@ -1,1 +1,2 @@
+pub mod Embedding
 pub mod Words

@@ -2,7 +2,9 @@
 // calls of primus_encoding meet after they have judged.
 #![tactic(auto)]
 
+mod embedding;
 mod moduli;
 mod switch;
 
+pub use embedding::PlaintextEmbedding;
 pub use moduli::Moduli;

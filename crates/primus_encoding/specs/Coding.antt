@@ -8,7 +8,8 @@ use Rattle.check_order.specs.declared.refusal.Refusal.{Refusal}
 use Rattle.check_order.specs.Answer.{answer}
 use Rattle.primus_encoding.specs.declared.coding.Coding.{Coding}
 use Rattle.primus_encoding.specs.declared.coding.Coding.TheVariants.{Encode, Decode, AddEncoding}
-use Rattle.primus_encoding.specs.Answers.{encode_word, add_word, encode_rows, decode_rows, add_rows}
+use Rattle.codec_words.specs.Embedding.{encode_word}
+use Rattle.primus_encoding.specs.Answers.{add_word, encode_rows, decode_rows, add_rows}
 use Rattle.primus_encoding.specs.Answers.{encode_slice_rows, decode_slice_rows, add_slice_rows}
 use Rattle.primus_encoding.specs.Answers.{encoded, decoded, added}
 

@@ -1,9 +1,8 @@
 // One body for all calls of the codec: what is done with a word is a value, and the checks follow from it.
-ghost use Rattle.std.specs.Prelude.{◌≡◌, ◌<◌, false, length, IfOk};
+ghost use Rattle.std.specs.Prelude.{◌≡◌, false, length, IfOk};
 ghost use Rattle.scheme.specs.Checks.{refusal};
 ghost use Rattle.primus_reduce.specs.Ring.{size_of};
 ghost use Rattle.check_order.specs.Answer.{code_of};
-ghost use Rattle.primus_encoding.specs.Answers.{encode_word, or_zero};
 ghost use Rattle.primus_encoding.specs.Coding.{message_fault, coded_word, coded_answer};
 ghost use Rattle.primus_encoding.specs.Coding.{slice_rows, words_fault, messages_fault, coded, CodesSlice};
 
@@ -21,17 +20,6 @@ pub(crate) enum Coding {
     AddEncoding(PlaintextEmbedding),
 }
 
-// encode(m)
-fn encode_word(moduli: Moduli, embedding: PlaintextEmbedding, message: u32) -> u32
-    requires { message < moduli.t }
-    ensures { result ≡ encode_word embedding (size_of moduli.modulus) moduli.t message }
-{
-    match embedding {
-        PlaintextEmbedding::Unsigned => moduli.encode(message),
-        PlaintextEmbedding::Centered => moduli.encode_centered(message),
-    }
-}
-
 // The word for x, where the output holds `held`.
 #[tactic(auto, using(crate::proofs::Laws::add_is))]
 fn code_word(coding: Coding, moduli: Moduli, x: u32, held: u32) -> u32
@@ -39,12 +27,12 @@ fn code_word(coding: Coding, moduli: Moduli, x: u32, held: u32) -> u32
     ensures { result ≡ coded_word coding moduli.t moduli.modulus x held }
 {
     match coding {
-        Coding::Encode(embedding) => encode_word(moduli, embedding, x),
+        Coding::Encode(embedding) => moduli.encode_as(embedding, x),
         Coding::Decode => moduli.decode(x),
         Coding::AddEncoding(embedding) => {
             moduli
-                .modulus()
-                .reduce_add(held, encode_word(moduli, embedding, x))
+                .modulus
+                .reduce_add(held, moduli.encode_as(embedding, x))
         }
     }
 }
@@ -146,13 +134,5 @@ impl RoundedCodec {
         let mut word = [held];
         self.code_slice_to(coding, &input, &mut word)?;
         Ok(word[0])
-    }
-
-    // The word, or 0 where it is refused.
-    // Stays: 0 is no refusal's number: the calls that use it have judged, and would only unwrap an Option.
-    pub(crate) fn value_or_zero(self, coding: Coding, x: u32) -> u32
-        ensures { result ≡ or_zero (coded_answer coding self.plaintext_modulus self.ciphertext_modulus x 0) }
-    {
-        self.code_value(coding, x, 0).unwrap_or(0)
     }
 }

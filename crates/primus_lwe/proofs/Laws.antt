@@ -3,10 +3,10 @@
 use mathlib.Core.Path.{◌≡◌, sym, ◌∙◌}
 use mathlib.Core.Bool.{false, ◌||◌}
 use mathlib.Core.List.{List}
-use Prim.Native.Nat.{ℕ, ◌+◌, ◌-◌, ◌<◌}
+use Prim.Native.Nat.{ℕ, ◌+◌, ◌-◌, ◌^◌, ◌<◌, ◌≤◌}
 use native.Mathlib.Omega.{arith}
-use Rattle.scheme.specs.Checks.{Check, refusal, applies, modulus_fails, length_fails}
-use Rattle.scheme.proofs.Checks.{modulus_ok, length_ok}
+use Rattle.scheme.specs.Checks.{Check, refusal, applies, modulus_fails, plaintext_fails, small_fails, length_fails}
+use Rattle.scheme.proofs.Checks.{modulus_ok, plaintext_ok, small_ok, length_ok}
 use Rattle.scheme.proofs.Order.{neither, passed}
 use Rattle.primus_reduce.specs.Ring.{meant, size_of}
 use Rattle.primus_reduce.specs.declared.modulus.Modulus.{Modulus}
@@ -18,6 +18,13 @@ positive m two = omega (arith, modulus_ok 32 (meant m) (omega arith) two)
 -- and of a call's checks that have passed
 pub ring_judged : (rows : List Check) (m : Modulus) → 0 ≡ refusal rows → applies rows 2 ≡ modulus_fails (meant m) → 0 < size_of m
 ring_judged rows m e f = positive m (sym f ∙ passed rows (sym e) 2 tt)
+
+-- 7 and 8 of such checks, where they judge t
+pub moduli_least : (rows : List Check) (t : ℕ) → 0 ≡ refusal rows → applies rows 7 ≡ plaintext_fails t → 2 ≤ t
+moduli_least rows t e f = plaintext_ok t (sym f ∙ passed rows (sym e) 7 tt)
+
+pub moduli_below : (rows : List Check) (t : ℕ) (m : Modulus) → t < 2 ^ 32 → 0 ≡ refusal rows → applies rows 8 ≡ small_fails t (meant m) → t < size_of m
+moduli_below rows t m h e f = small_ok 32 t (meant m) h (sym f ∙ passed rows (sym e) 8 tt)
 
 -- 12, of one ciphertext
 pub mask_ok : (mask errors n : ℕ) → (length_fails errors 1 || length_fails mask n) ≡ false → mask ≡ n

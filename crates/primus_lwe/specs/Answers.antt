@@ -1,13 +1,11 @@
 -- What each call promises.
-use Rattle.std.specs.Prelude.{false, List, ◌≡◌, ℕ, ℤ, pos, length, get_or, Result}
+use Rattle.std.specs.Prelude.{List, ◌≡◌, ℕ, ℤ, pos, length, get_or, Result}
 use Rattle.scheme.specs.Lwe.{Key, secret_of, encrypted, phase_of}
 use Rattle.scheme.specs.Codec.{decode}
 use Rattle.scheme.specs.Tally.{Fresh}
-use Rattle.scheme.specs.Checks.{modulus_fails, plaintext_fails, small_fails}
-use Rattle.primus_reduce.specs.Ring.{meant, size_of}
-use Rattle.primus_reduce.specs.declared.modulus.Modulus.{Modulus}
-use Rattle.primus_encoding.specs.declared.PlaintextEmbedding.{PlaintextEmbedding}
-use Rattle.primus_encoding.specs.Answers.{encode_word}
+use Rattle.primus_reduce.specs.Ring.{size_of}
+use Rattle.codec_words.specs.declared.embedding.PlaintextEmbedding.{PlaintextEmbedding}
+use Rattle.codec_words.specs.Embedding.{encode_word}
 use Rattle.check_order.specs.declared.refusal.Refusal.{Refusal}
 use Rattle.check_order.specs.Answer.{answer}
 use Rattle.lwe_tag.specs.declared.LweTag.{LweTag}
@@ -55,11 +53,3 @@ pub record Decrypts (P : LweDecryptionParameters) (key : Key) (x : List ℕ) (gi
       given ≡ answer (decrypt_rows P key x)
       (decode (size_of P.modulus) P.plaintext_modulus
       (phase_of (size_of P.modulus) P.dimension.0 x (secret_of key)))
-
--- ---- for the steps, and no part of a promise
-
--- what a codec of t and m asks: 2, 7 and 8 do not apply
-pub record Codable (t : ℕ) (m : Modulus) : Type 0 where
-  pub modulus_ok : modulus_fails (meant m) ≡ false
-  pub plaintext_ok : plaintext_fails t ≡ false
-  pub small_ok : small_fails t (meant m) ≡ false

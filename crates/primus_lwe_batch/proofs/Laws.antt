@@ -1,20 +1,16 @@
 -- What the checks of a batch leave, by the number of a check that has passed.
 -- Assumes nothing.
-use mathlib.Core.Path.{◌≡◌, refl, sym, ap, ap₂, ◌∙◌}
+use mathlib.Core.Path.{◌≡◌, sym, ap, ap₂, ◌∙◌}
 use mathlib.Core.Bool.{false, ◌||◌}
-use mathlib.Core.List.{List}
-use Prim.Native.Nat.{ℕ, ◌+◌, ◌*◌, ◌/◌, ◌%◌, ◌<◌}
+use Prim.Native.Nat.{ℕ, ◌+◌, ◌*◌, ◌/◌, ◌%◌}
 use native.Mathlib.Nat.{div-add-mod}
 use native.Mathlib.Omega.{arith}
 use borrow.Author.Tests.{eqb-true, not-false}
-use Rattle.scheme.specs.Lwe.{Key}
 use Rattle.scheme.specs.Checks.{length_fails, batch_fails}
 use Rattle.scheme.proofs.Checks.{length_ok}
 use Rattle.scheme.proofs.Lists.{is-tabulate}
 use Rattle.scheme.proofs.Order.{neither}
 use Rattle.lwe_secret_key.specs.Runs.{Run}
-use Rattle.primus_lwe.proofs.Coded.{phase-below}
-use Rattle.primus_lwe_batch.specs.Answers.{batch_phase}
 
 pub ruleset tables = (is-tabulate)
 
@@ -37,7 +33,3 @@ rows_ok key words room n nine ten eleven =
   where
     whole : (x w : ℕ) → x % w ≡ 0 → x ≡ x / w * w
     whole x w e = omega (arith, div-add-mod x w)
-
--- a phase is a word
-pub phases_below : (q n : ℕ) (key : Key) (x : List ℕ) (c : ℕ) → 0 < q → (i : ℕ) → i < c → batch_phase q n key x i < q
-phases_below q n key x c h i k = phase-below q n _ _ _ h refl

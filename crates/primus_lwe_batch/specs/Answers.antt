@@ -5,7 +5,7 @@ use Rattle.scheme.specs.Lwe.{Key, secret_of, signed, encrypted_rows, phase_of, r
 use Rattle.scheme.specs.Codec.{decode}
 use Rattle.scheme.specs.Checks.{Writes}
 use Rattle.primus_reduce.specs.Ring.{size_of}
-use Rattle.primus_encoding.specs.declared.PlaintextEmbedding.{PlaintextEmbedding}
+use Rattle.codec_words.specs.declared.embedding.PlaintextEmbedding.{PlaintextEmbedding}
 use Rattle.lwe_parameters.specs.declared.parameter.LwePhaseParameters.{LwePhaseParameters}
 use Rattle.lwe_parameters.specs.declared.parameter.LweDecryptionParameters.{LweDecryptionParameters}
 use Rattle.lwe_parameters.specs.declared.parameter.LweParameters.{LweParameters}

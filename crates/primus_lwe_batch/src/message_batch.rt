@@ -1,27 +1,27 @@
 // Messages and phases of a batch.
-ghost use Rattle.std.specs.Prelude.{◌≡◌, false, ◌+◌, ◌*◌, ◌≤◌, length};
+ghost use Rattle.std.specs.Prelude.{◌≡◌, false, ◌+◌, ◌*◌, ◌≤◌, pos, length, get_or};
 ghost use Rattle.scheme.specs.Numbers.{tabulate};
 ghost use Rattle.scheme.specs.Lwe.{Words, words, signed, encrypted_rows};
 ghost use Rattle.scheme.specs.Checks.{messages_fail};
 ghost use Rattle.primus_reduce.specs.Ring.{size_of};
 ghost use Rattle.check_order.specs.Answer.{code_of};
-ghost use Rattle.primus_lwe.specs.Answers.{Codable, encodings};
+ghost use Rattle.codec_words.specs.Embedding.{encode_word};
 ghost use Rattle.lwe_secret_key.specs.Runs.{Run};
 ghost use Rattle.primus_lwe_batch.specs.Answers.{EncryptsBatch, batch_phase, TakesPhases, DecryptsBatch};
 
 use check_order::Refusal;
+use codec_words::{Moduli, PlaintextEmbedding};
 use lwe_batch_refusals::{decrypt_refusal, encrypt_refusal};
 use lwe_parameters::{LweDecryptionParameters, LweParameters, LwePhaseParameters};
 use lwe_secret_key::LweSecretKeyRef;
 use lwe_tag::LweTag;
-use primus_encoding::{PlaintextEmbedding, RoundedCodec, encode_or_zero};
 use primus_reduce::Ring;
 
 // A row for each message.
-#[tactic(auto, using(lwe_secret_key::proofs::Runs::rows_done, primus_lwe::proofs::Laws::positive))]
+#[tactic(auto, using(lwe_secret_key::proofs::Runs::rows_done))]
 fn write_messages(
     out: &mut [u32],
-    params: LweParameters,
+    moduli: Moduli,
     embedding: PlaintextEmbedding,
     secret: &[u32],
     masks: &[u32],
@@ -29,24 +29,21 @@ fn write_messages(
     messages: &[u32],
 )
     requires { Run (length secret.now) (length masks.now) (length messages.now) (length out.old)
-        × Codable params.plaintext_modulus params.modulus
-        × (messages_fail params.plaintext_modulus messages.now ≡ false) }
+        × (messages_fail moduli.t messages.now ≡ false) }
     ensures { out.new ≡
-        encrypted_rows (size_of params.modulus) (length secret.now) (length messages.now)
+        encrypted_rows (size_of moduli.modulus) (length secret.now) (length messages.now)
         masks.now (words secret.now) (signed errors.now)
-        (encodings embedding params messages.now) }
+        (λ i. pos (encode_word embedding (size_of moduli.modulus) moduli.t (get_or messages.now i 0))) }
 {
     let key = LweSecretKeyRef::Encoded(secret);
-    let modulus = params.modulus;
-    let t = params.plaintext_modulus;
-    let ring = Ring { modulus };
     for (i, message) in messages.iter().enumerate() {
-        let plaintext = encode_or_zero(t, modulus, *message, embedding);
-        key.encrypt_row(out, masks, errors, i, plaintext, ring);
+        let plaintext = moduli.encode_as(embedding, *message);
+        key.encrypt_row(out, masks, errors, i, plaintext, moduli.ring());
     }
 }
 
 // An encryption of encode(m) for each message, if any; each row has tally E. Refuses by 2, 6, 7, 8, 9, 11, 12, 13, 14, 15, 16.
+#[tactic(auto, using(primus_lwe::proofs::Laws::moduli_least, primus_lwe::proofs::Laws::moduli_below))]
 pub fn encrypt_message_batch_to(
     params: LweParameters,
     embedding: PlaintextEmbedding,
@@ -60,7 +57,11 @@ pub fn encrypt_message_batch_to(
         errors.now messages.now out.old result out.new }
 {
     encrypt_refusal(params, secret, masks, errors, messages, out.len())?;
-    write_messages(out, params, embedding, secret, masks, errors, messages);
+    let moduli = Moduli {
+        t: params.plaintext_modulus,
+        modulus: params.modulus,
+    };
+    write_messages(out, moduli, embedding, secret, masks, errors, messages);
     Ok(LweTag::with_tally(u64::from(params.error_limit)))
 }
 
@@ -107,7 +108,7 @@ pub fn decrypt_phase_batch_to(
 }
 
 // decode of the phase of each ciphertext. Refuses by 2, 6, 7, 8, 9, 10, 11, 14.
-#[tactic(auto, using(primus_lwe::proofs::Laws::ring_judged))]
+#[tactic(auto, using(primus_lwe::proofs::Laws::moduli_least, primus_lwe::proofs::Laws::moduli_below))]
 pub fn decrypt_message_batch_to(
     params: LweDecryptionParameters,
     secret: &[u32],
@@ -120,6 +121,8 @@ pub fn decrypt_message_batch_to(
     let modulus = params.modulus;
     let t = params.plaintext_modulus;
     decrypt_refusal(params.into(), Some(t), secret, input, out.len())?;
-    row_phases(out, input, secret, Ring { modulus });
-    RoundedCodec::given(t, modulus).decode_slice_assign(out)
+    let moduli = Moduli { t, modulus };
+    row_phases(out, input, secret, moduli.ring());
+    moduli.decode_each(out);
+    Ok(())
 }

@@ -5,14 +5,13 @@ use mathlib.Core.Bool.{false, ◌||◌}
 use mathlib.Core.List.{List, ◌++◌}
 use Prim.Native.Nat.{ℕ, ◌+◌, ◌-◌, ◌≤◌, ◌<◌}
 use native.Mathlib.Omega.{arith}
-use lib.IntN.{ℤ, pos, ◌+ℤ◌, ◌-ℤ◌}
-use lib.ListN.{length, get_or, drop, length-append}
+use lib.IntN.{ℤ, ◌+ℤ◌}
+use lib.ListN.{length, drop, length-append}
 use lib.Seq.{drop-append_seam}
 use borrow.Author.Tests.{ltb-false}
 use Rattle.scheme.specs.Numbers.{residue, tabulate}
-use Rattle.scheme.specs.Lwe.{words, rotated, packed, packed_phase}
+use Rattle.scheme.specs.Lwe.{words, rotated, packed}
 use Rattle.scheme.specs.Checks.{length_fails, count_fails, packed_fails}
-use Rattle.scheme.proofs.Residue.{residue_lt}
 use Rattle.scheme.proofs.Lists.{tabulate_ext}
 use Rattle.scheme.proofs.Checks.{length_ok, packed_ok}
 use Rattle.scheme.proofs.Order.{neither}
@@ -25,11 +24,6 @@ unfolding packed
 packed_held q n c a front ps s e p each f k h =
     ap₂ (λ (m : ℕ) (r : List ℕ). a ++ tabulate m (λ i. residue (rotated (length a) a s i +ℤ e i +ℤ words r i) q)) (omega (arith, length-append front ps)) (ap (λ m. drop m (front ++ ps)) (sym f) ∙ drop-append_seam front ps)
     ∙ ap (λ x. a ++ x) (tabulate_ext c _ _ (λ i l. ap₂ (λ (m : ℕ) (z : ℤ). residue (rotated m a s i +ℤ e i +ℤ z) q) each (h i l)))
-
--- a phase is a word
-pub packed-below : (q n : ℕ) (x : List ℕ) (s : ℕ → ℤ) (i : ℕ) → 0 < q → packed_phase q n x s i < q
-unfolding packed_phase
-packed-below q n x s i h = residue_lt (pos (get_or x (n + i) 0) -ℤ rotated n x s i) q h
 
 -- ---- what the checks leave
 

@@ -6,7 +6,7 @@ use Rattle.scheme.specs.Codec.{decode}
 use Rattle.scheme.specs.Tally.{Packed}
 use Rattle.scheme.specs.Checks.{Writes}
 use Rattle.primus_reduce.specs.Ring.{size_of}
-use Rattle.primus_encoding.specs.declared.PlaintextEmbedding.{PlaintextEmbedding}
+use Rattle.codec_words.specs.declared.embedding.PlaintextEmbedding.{PlaintextEmbedding}
 use Rattle.check_order.specs.declared.refusal.Refusal.{Refusal}
 use Rattle.lwe_tag.specs.declared.LweTag.{LweTag}
 use Rattle.lwe_tag.specs.Answers.{tag_from, WritesTagged}

@@ -1,34 +1,35 @@
 // Packed messages below t: encoded and encrypted, and decrypted again.
-ghost use Rattle.std.specs.Prelude.{ℕ, ◌≡◌, ◌<◌, length, get_or};
-ghost use Rattle.primus_encoding.specs.Answers.{encode_answer, or_zero};
+ghost use Rattle.std.specs.Prelude.{ℕ, ◌≡◌, ◌<◌, false, length, get_or};
+ghost use Rattle.scheme.specs.Checks.{messages_fail};
+ghost use Rattle.primus_reduce.specs.Ring.{size_of};
+ghost use Rattle.codec_words.specs.Embedding.{encode_word};
 ghost use Rattle.check_order.specs.Answer.{code_of};
 ghost use Rattle.primus_lwe_packed.specs.Answers.{EncryptsPackedMessages, DecryptsPacked};
 
 use check_order::Refusal;
+use codec_words::{Moduli, PlaintextEmbedding};
 use lwe_packed_refusals::{packed_decrypt_refusal, packed_message_refusal};
 use lwe_parameters::{LweDecryptionParameters, LweParameters};
 use lwe_tag::LweTag;
-use primus_encoding::{PlaintextEmbedding, RoundedCodec, encode_or_zero};
-use primus_reduce::Ring;
 
 // encode(m) of each message in its body's place, for a call that has judged them.
 fn write_encodings(
     bodies: &mut [u32],
-    params: LweParameters,
+    moduli: Moduli,
     embedding: PlaintextEmbedding,
     messages: &[u32],
 )
-    requires { length bodies.old ≡ length messages.now }
+    requires { (length bodies.old ≡ length messages.now) × (messages_fail moduli.t messages.now ≡ false) }
     ensures { (i : ℕ) → i < length messages.now → get_or bodies.new i 0 ≡
-        or_zero (encode_answer params.plaintext_modulus params.modulus embedding (get_or messages.now i 0)) }
+        encode_word embedding (size_of moduli.modulus) moduli.t (get_or messages.now i 0) }
 {
     for (i, body) in bodies.iter_mut().enumerate() {
-        let message = messages[i];
-        *body = encode_or_zero(params.plaintext_modulus, params.modulus, message, embedding);
+        *body = moduli.encode_as(embedding, messages[i]);
     }
 }
 
 // n mask words, then a body for each message; no tally. Refuses by 2, 6, 7, 8, 9, 10, 11, 12, 13, 14, 15, 16.
+#[tactic(auto, using(primus_lwe::proofs::Laws::moduli_least, primus_lwe::proofs::Laws::moduli_below))]
 pub fn encrypt_message_packed(
     params: LweParameters,
     embedding: PlaintextEmbedding,
@@ -42,16 +43,18 @@ pub fn encrypt_message_packed(
         errors.now messages.now out.old result out.new }
 {
     packed_message_refusal(params, secret, mask, errors, messages, out.len())?;
-    let ring = Ring {
+    let moduli = Moduli {
+        t: params.plaintext_modulus,
         modulus: params.modulus,
     };
     let (_, bodies) = out.split_at_mut(mask.len());
-    write_encodings(bodies, params, embedding, messages);
-    lwe_packing::write_packed(out, mask, secret, errors, ring);
+    write_encodings(bodies, moduli, embedding, messages);
+    lwe_packing::write_packed(out, mask, secret, errors, moduli.ring());
     Ok(LweTag::none())
 }
 
 // decode of the phase of each body. Refuses by 2, 6, 7, 8, 9, 10, 11, 14.
+#[tactic(auto, using(primus_lwe::proofs::Laws::moduli_least, primus_lwe::proofs::Laws::moduli_below))]
 pub fn decrypt_message_packed(
     params: LweDecryptionParameters,
     secret: &[u32],
@@ -62,9 +65,11 @@ pub fn decrypt_message_packed(
         (code_of result) out.new }
 {
     packed_decrypt_refusal(params, secret, input, out.len())?;
-    let modulus = params.modulus;
-    lwe_packing::phases(out, input, secret, Ring { modulus });
-    let codec = RoundedCodec::given(params.plaintext_modulus, modulus);
-    // The codec's checks have passed, and a phase is a word: it refuses nothing.
-    codec.decode_slice_assign(out)
+    let moduli = Moduli {
+        t: params.plaintext_modulus,
+        modulus: params.modulus,
+    };
+    lwe_packing::phases(out, input, secret, moduli.ring());
+    moduli.decode_each(out);
+    Ok(())
 }

@@ -4,7 +4,7 @@ use Rattle.scheme.specs.Lwe.{Key, secret_of, key_length, signed, public_key, pub
 use Rattle.scheme.specs.Checks.{Check, row, Writes, length_fails, word_fails, words_fail, key_fails}
 use Rattle.scheme.specs.Checks.{errors_fail, coefficients_fail, message_fails}
 use Rattle.primus_reduce.specs.Ring.{size_of}
-use Rattle.primus_encoding.specs.declared.PlaintextEmbedding.{PlaintextEmbedding}
+use Rattle.codec_words.specs.declared.embedding.PlaintextEmbedding.{PlaintextEmbedding}
 use Rattle.lwe_parameters.specs.declared.parameter.LweEncryptionParameters.{LweEncryptionParameters}
 use Rattle.lwe_parameters.specs.declared.parameter.LweParameters.{LweParameters}
 use Rattle.lwe_parameters.specs.Answers.{encryption_parameters_rows, parameters_rows}

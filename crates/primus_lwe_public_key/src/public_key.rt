@@ -9,9 +9,9 @@ ghost use Rattle.primus_lwe_public_key.specs.Answers.{public_rows, EncryptsPubli
 ghost use Rattle.primus_lwe_public_key.specs.Answers.{public_message_rows, EncryptsPublicMessage};
 
 use check_order::{Refusal, Values};
+use codec_words::{Moduli, PlaintextEmbedding};
 use lwe_secret_key::LweSecretKeyRef;
 use lwe_tag::LweTag;
-use primus_encoding::{PlaintextEmbedding, encode_or_zero};
 use primus_lattice::LweDimension;
 use primus_lwe::{LweEncryptionParameters, LweParameters};
 use primus_reduce::{Modulus, Ring};
@@ -157,7 +157,7 @@ impl LwePublicKey {
     }
 
     // An encryption of encode(m); no tally. Refuses by 2, 6, 7, 8, 9, 11, 12, 13, 14, 15, 16.
-    #[tactic(auto, using(primus_lwe::proofs::Laws::ring_judged))]
+    #[tactic(auto, using(primus_lwe::proofs::Laws::moduli_least, primus_lwe::proofs::Laws::moduli_below))]
     pub fn encrypt_message_to(
         params: LweParameters,
         embedding: PlaintextEmbedding,
@@ -171,10 +171,12 @@ impl LwePublicKey {
             coefficients.now message out.old result out.new }
     {
         public_message_refusal(params, key, errors, coefficients, message, out.len())?;
-        let modulus = params.modulus;
-        let plaintext = encode_or_zero(params.plaintext_modulus, modulus, message, embedding);
-        let ring = Ring { modulus };
-        lwe_public_rows::write_public(out, key, errors, coefficients, plaintext, ring);
+        let moduli = Moduli {
+            t: params.plaintext_modulus,
+            modulus: params.modulus,
+        };
+        let plaintext = moduli.encode_as(embedding, message);
+        lwe_public_rows::write_public(out, key, errors, coefficients, plaintext, moduli.ring());
         Ok(LweTag::none())
     }
 }

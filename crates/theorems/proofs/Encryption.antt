@@ -21,7 +21,7 @@ use Rattle.scheme.proofs.Lwe.{phase_fresh, phase-packed}
 use Rattle.scheme.proofs.Public.{row_mask, row-encrypted, phase_public_key}
 use Rattle.primus_reduce.specs.Ring.{size_of}
 use Rattle.primus_reduce.specs.declared.modulus.Modulus.{Modulus}
-use Rattle.primus_encoding.specs.declared.PlaintextEmbedding.{PlaintextEmbedding}
+use Rattle.codec_words.specs.declared.embedding.PlaintextEmbedding.{PlaintextEmbedding}
 use Rattle.primus_lattice.specs.declared.dimension.LweDimension.{LweDimension}
 use Rattle.lwe_tag.specs.declared.LweTag.{LweTag}
 use Rattle.lwe_parameters.specs.declared.parameter.LweEncryptionParameters.{LweEncryptionParameters}

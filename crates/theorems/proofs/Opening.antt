@@ -31,8 +31,8 @@ use Rattle.scheme.proofs.Public.{row_mask, row-encrypted, encrypted-row}
 use Rattle.scheme.proofs.Switch.{encrypted-length, encrypted-below}
 use Rattle.primus_reduce.specs.Ring.{size_of}
 use Rattle.primus_reduce.specs.declared.modulus.Modulus.{Modulus}
-use Rattle.primus_encoding.specs.declared.PlaintextEmbedding.{PlaintextEmbedding}
-use Rattle.primus_encoding.specs.Answers.{meant_embedding}
+use Rattle.codec_words.specs.declared.embedding.PlaintextEmbedding.{PlaintextEmbedding}
+use Rattle.codec_words.specs.Embedding.{meant_embedding}
 use Rattle.scheme.specs.Tally.{Fresh, Present, good}
 use Rattle.lwe_tag.specs.declared.LweTag.{LweTag}
 use Rattle.check_order.proofs.Answers.{answered_ok}

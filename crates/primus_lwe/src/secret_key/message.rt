@@ -3,15 +3,15 @@ ghost use Rattle.lwe_secret_key.specs.Key.{key_of};
 ghost use Rattle.primus_lwe.specs.Answers.{EncryptsMessage, Decrypts};
 
 use check_order::Refusal;
+use codec_words::Moduli;
 use lwe_parameters::{LweDecryptionParameters, LweParameters};
 use lwe_refusals::{decrypt_refusal, message_refusal};
 use lwe_secret_key::LweSecretKeyRef;
 use lwe_tag::LweTag;
-use primus_encoding::{PlaintextEmbedding, decode_or_zero, encode_or_zero};
-use primus_reduce::Ring;
+use primus_encoding::PlaintextEmbedding;
 
 // An encryption of encode(m), with tally E. Refuses by 2, 6, 7, 8, 9, 11, 12, 13, 14, 15, 16.
-#[tactic(auto, using(crate::proofs::Laws::ring_judged))]
+#[tactic(auto, using(crate::proofs::Laws::moduli_least, crate::proofs::Laws::moduli_below))]
 pub fn encrypt_message_to(
     params: LweParameters,
     embedding: PlaintextEmbedding,
@@ -24,14 +24,17 @@ pub fn encrypt_message_to(
     ensures { EncryptsMessage params embedding (key_of key.entry) mask.now errors.now message out.old result out.new }
 {
     message_refusal(params, key, mask, errors, message, out.len())?;
-    let modulus = params.modulus;
-    let plaintext = encode_or_zero(params.plaintext_modulus, modulus, message, embedding);
-    key.encrypt_to(out, mask, errors, 0, plaintext, Ring { modulus });
+    let moduli = Moduli {
+        t: params.plaintext_modulus,
+        modulus: params.modulus,
+    };
+    let plaintext = moduli.encode_as(embedding, message);
+    key.encrypt_to(out, mask, errors, 0, plaintext, moduli.ring());
     Ok(LweTag::with_tally(u64::from(params.error_limit)))
 }
 
 // decode of the phase. Refuses by 2, 6, 7, 8, 9, 10, 14.
-#[tactic(auto, using(crate::proofs::Laws::ring_judged))]
+#[tactic(auto, using(crate::proofs::Laws::moduli_least, crate::proofs::Laws::moduli_below))]
 pub fn decrypt_message(
     params: LweDecryptionParameters,
     key: LweSecretKeyRef,
@@ -42,6 +45,6 @@ pub fn decrypt_message(
     let modulus = params.modulus;
     let t = params.plaintext_modulus;
     decrypt_refusal(params.into(), Some(t), key, ciphertext)?;
-    let p = key.phase(ciphertext, Ring { modulus });
-    Ok(decode_or_zero(t, modulus, p))
+    let moduli = Moduli { t, modulus };
+    Ok(moduli.decode(key.phase(ciphertext, moduli.ring())))
 }

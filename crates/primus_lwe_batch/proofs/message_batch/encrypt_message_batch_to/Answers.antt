@@ -11,8 +11,7 @@ returns-in_err-encrypt_refusal c = rw (handed_on _ c.from_residual.ensures.1) (r
 
 pub write_messages-requires : goal.write_messages-requires
 write_messages-requires c =
-    let no = passed _ (sym c.in_ok-encrypt_refusal.ensures) in
-    (run_ok _ _ _ _ _ _ (no 9 tt) (no 11 tt) (no 12 tt), record { modulus_ok = no 2 tt; plaintext_ok = no 7 tt; small_ok = no 8 tt }, no 16 tt)
+    let no = passed _ (sym c.in_ok-encrypt_refusal.ensures) in (run_ok _ _ _ _ _ _ (no 9 tt) (no 11 tt) (no 12 tt), no 16 tt)
 
 pub returns : goal.returns
 returns c =

@@ -1,24 +1,19 @@
-use Rattle.std.proofs.Common.{sym, length-append, arith, ◌∙◌}
+use Rattle.std.proofs.Common.{sym, ap, pos, length-append, arith, ◌∙◌}
 use Rattle.scheme.proofs.Order.{passed}
 use Rattle.check_order.proofs.Answers.{handed_on}
 use Rattle.lwe_tag.proofs.Writes.{refused, done}
 use Rattle.primus_lwe.specs.Answers.{encodings}
-use Rattle.primus_lwe.proofs.Laws.{positive}
-use Rattle.primus_lwe.proofs.Coded.{encoded_at}
 use Rattle.primus_lwe_packed.proofs.Laws.{pack_ok, packed_held}
 use Rattle.primus_lwe_packed.proofs.message_packed.encrypt_message_packed.Goals as goal
 
 pub returns-in_err-packed_message_refusal : goal.returns-in_err-packed_message_refusal
 returns-in_err-packed_message_refusal c = rw (handed_on _ c.from_residual.ensures.1) (record { writes = refused c.in_err-packed_message_refusal.ensures })
 
-pub invariant_of-ring : goal.invariant_of-ring
-invariant_of-ring c = record { positive = positive c.args.params.modulus (passed _ (sym c.in_ok-packed_message_refusal.ensures) 2 tt) }
-
 pub split_at_mut-bodies-requires : goal.split_at_mut-bodies-requires
 split_at_mut-bodies-requires c = let no = passed _ (sym c.in_ok-packed_message_refusal.ensures) in let p = pack_ok _ _ _ _ _ _ (no 9 tt) (no 10 tt) (no 11 tt) (no 12 tt) in omega (arith, p.fits)
 
 pub write_encodings-requires : goal.write_encodings-requires
-write_encodings-requires c = let no = passed _ (sym c.in_ok-packed_message_refusal.ensures) in let p = pack_ok _ _ _ _ _ _ (no 9 tt) (no 10 tt) (no 11 tt) (no 12 tt) in omega (arith, p.fits, c.split_at_mut-bodies.ensures.back_len)
+write_encodings-requires c = let no = passed _ (sym c.in_ok-packed_message_refusal.ensures) in let p = pack_ok _ _ _ _ _ _ (no 9 tt) (no 10 tt) (no 11 tt) (no 12 tt) in (omega (arith, p.fits, c.split_at_mut-bodies.ensures.back_len), no 16 tt)
 
 pub write_packed-requires : goal.write_packed-requires
 write_packed-requires c =
@@ -34,8 +29,8 @@ returns c =
     record {
       writes =
           done c.in_ok-packed_message_refusal.ensures c.none.ensures
-          (c.write_packed.ensures
+          (rw c.ring.ensures at c.write_packed.ensures
           ∙ packed_held _ _ _ _ c.split_at_mut-bodies.result.0.now c.write_encodings.new.bodies _ _ (encodings c.args.embedding c.args.params c.args.messages.now) p.each c.split_at_mut-bodies.ensures.front_len
           (omega (arith, p.fits, c.split_at_mut-bodies.ensures.back_len))
-          (λ i h. encoded_at c.args.params (record { modulus_ok = no 2 tt; plaintext_ok = no 7 tt; small_ok = no 8 tt }) c.args.embedding c.args.messages.now i (no 16 tt) h (c.write_encodings.ensures i h)));
+          (λ i h. ap pos (c.write_encodings.ensures i h)));
     }

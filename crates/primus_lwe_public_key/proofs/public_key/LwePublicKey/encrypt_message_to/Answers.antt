@@ -1,13 +1,16 @@
 use Rattle.std.proofs.Common.{sym, length}
+use Rattle.scheme.proofs.Checks.{message_ok}
 use Rattle.scheme.proofs.Order.{passed}
 use Rattle.check_order.proofs.Answers.{handed_on}
 use Rattle.lwe_tag.proofs.Writes.{refused, done}
-use Rattle.primus_lwe.proofs.Coded.{encoded-is}
 use Rattle.primus_lwe_public_key.proofs.Laws.{lent_ok, public_ok}
 use Rattle.primus_lwe_public_key.proofs.public_key.LwePublicKey.encrypt_message_to.Goals as goal
 
 pub returns-in_err-public_message_refusal : goal.returns-in_err-public_message_refusal
 returns-in_err-public_message_refusal c = rw (handed_on _ c.from_residual.ensures.1) (record { writes = refused c.in_err-public_message_refusal.ensures })
+
+pub encode_as-plaintext-requires : goal.encode_as-plaintext-requires
+encode_as-plaintext-requires c = message_ok _ _ (passed _ (sym c.in_ok-public_message_refusal.ensures) 16 tt)
 
 pub write_public-requires : goal.write_public-requires
 write_public-requires c =
@@ -17,6 +20,8 @@ write_public-requires c =
 pub returns : goal.returns
 returns c =
     let no = passed _ (sym c.in_ok-public_message_refusal.ensures) in
-    let plain =
-    encoded-is c.args.params (record { modulus_ok = no 2 tt; plaintext_ok = no 7 tt; small_ok = no 8 tt }) c.args.embedding c.args.message (no 16 tt) c.encode_or_zero-plaintext.ensures in
-    record { writes = done c.in_ok-public_message_refusal.ensures c.none.ensures (rw (lent_ok (length c.args.coefficients.now) _ _ _ (no 12 tt), plain) at c.write_public.ensures) }
+    record {
+      writes =
+          done c.in_ok-public_message_refusal.ensures c.none.ensures
+          (rw (c.ring.ensures, lent_ok (length c.args.coefficients.now) _ _ _ (no 12 tt), c.encode_as-plaintext.ensures) at c.write_public.ensures);
+    }
