@@ -5,7 +5,7 @@ use primus_lattice::LweDimension;
 use primus_lwe::{LweDecryptionParameters, LweSecretKeyRef, decrypt_message};
 use primus_lwe_batch::decrypt_message_batch_to;
 use primus_lwe_packed::decrypt_message_packed;
-use saved_files::Loaded;
+use saved_files::{Loaded, SavedWord};
 use saved_head::{Head, Kind};
 use std::alloc::AllocError;
 
@@ -20,27 +20,38 @@ fn parameters(h: Head) -> Result<LweDecryptionParameters, Refusal> {
     })
 }
 
-// The messages of ciphertexts of one message each, or of a packed one.
-fn open(h: Head, secret: &[u32], words: &[u32], out: &mut [u32]) -> Result<(), Refusal> {
-    let params = parameters(h)?;
-    if h.kind == Kind::Packed {
-        decrypt_message_packed(params, secret, words, out)
-    } else {
-        decrypt_message_batch_to(params, secret, words, out)
+// A word of a secret, of which a run opens ciphertexts.
+pub(crate) trait SecretWord: SavedWord {
+    // The messages, as far as the room goes.
+    fn open(l: Loaded<u32>, secret: Loaded<Self>, out: &mut [u32]) -> Result<(), Fault>;
+}
+
+// Ciphertexts of one message each, or a packed one.
+impl SecretWord for u32 {
+    fn open(l: Loaded<u32>, secret: Loaded<u32>, out: &mut [u32]) -> Result<(), Fault> {
+        let params = parameters(l.head)?;
+        if l.head.kind == Kind::Packed {
+            decrypt_message_packed(params, secret.words, l.words, out)?;
+        } else {
+            decrypt_message_batch_to(params, secret.words, l.words, out)?;
+        }
+        Ok(())
     }
 }
 
-// The messages of ciphertexts of one message each under a signed secret, as far as the room goes.
-fn open_signed(l: Loaded<u32>, secret: Loaded<i32>, out: &mut [u32]) -> Result<(), Fault> {
-    agrees(secret.head.words as usize <= secret.room.len())?;
-    let params = parameters(l.head)?;
-    let key = LweSecretKeyRef::Signed(secret.words);
-    out.fill(NONE);
-    let rows = l.room.chunks_exact(l.head.n.saturating_add(1));
-    for (message, row) in out.iter_mut().zip(rows) {
-        *message = decrypt_message(params, key, row).unwrap_or(NONE);
+// Ciphertexts of one message each, row by row: the batch takes no signed secret.
+impl SecretWord for i32 {
+    fn open(l: Loaded<u32>, secret: Loaded<i32>, out: &mut [u32]) -> Result<(), Fault> {
+        agrees(secret.head.words as usize <= secret.room.len())?;
+        let params = parameters(l.head)?;
+        let key = LweSecretKeyRef::Signed(secret.words);
+        out.fill(NONE);
+        let rows = l.room.chunks_exact(l.head.n.saturating_add(1));
+        for (message, row) in out.iter_mut().zip(rows) {
+            *message = decrypt_message(params, key, row).unwrap_or(NONE);
+        }
+        Ok(())
     }
-    Ok(())
 }
 
 // What refuses a file, the messages saved beside it, or those that it opens to.
@@ -73,24 +84,19 @@ fn tell(
     Ok(())
 }
 
-pub(crate) fn opened(folder: Folder, name: &str, secret: &str) -> Result<(), AllocError> {
-    let mut key = [0u32; 8192];
+// A file opened under a secret, which is read into the room for its words.
+pub(crate) fn opened<W: SecretWord>(
+    folder: Folder,
+    name: &str,
+    secret: &str,
+    key: &mut [W],
+) -> Result<(), AllocError> {
     let mut words = [0u32; 8192];
     let mut room = [0u32; 8192];
-    let k = folder.load(secret, "", &mut key)?;
+    let k = folder.load(secret, "", key)?;
     let l = folder.load(name, "", &mut words)?;
     let count = room.len().min(l.head.count as usize);
     let out = &mut room[..count];
-    let opening = open(l.head, k.words, l.words, out).map_err(Fault::from);
+    let opening = W::open(l, k, out);
     tell(folder, name, l, opening, out)
-}
-
-pub(crate) fn opened_signed(folder: Folder, name: &str, secret: &str) -> Result<(), AllocError> {
-    let mut key = [0i32; 2048];
-    let mut words = [0u32; 8192];
-    let mut out = [0u32; 64];
-    let k = folder.load(secret, "", &mut key)?;
-    let l = folder.load(name, "", &mut words)?;
-    let opening = open_signed(l, k, &mut out);
-    tell(folder, name, l, opening, &out)
 }

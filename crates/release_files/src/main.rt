@@ -34,10 +34,12 @@ fn tried(folder: Folder) -> Result<(), AllocError> {
 }
 
 fn opened(folder: Folder) -> Result<(), AllocError> {
+    let mut words = [0u32; 8192];
+    let mut numbers = [0i32; 2048];
     for name in ["fresh", "summed", "packed", "public"] {
-        ciphertexts::opened(folder, name, "secret")?;
+        ciphertexts::opened(folder, name, "secret", &mut words)?;
     }
-    ciphertexts::opened_signed(folder, "signed_fresh", "signed_secret")
+    ciphertexts::opened(folder, "signed_fresh", "signed_secret", &mut numbers)
 }
 
 fn switched(folder: Folder) -> Result<(), AllocError> {
@@ -48,8 +50,11 @@ fn switched(folder: Folder) -> Result<(), AllocError> {
         "signed_fresh",
         "signed_switched",
     )?;
-    ciphertexts::opened(folder, "switched", "group_secret")?;
-    ciphertexts::opened(folder, "signed_switched", "group_secret")
+    let mut words = [0u32; 8192];
+    for name in ["switched", "signed_switched"] {
+        ciphertexts::opened(folder, name, "group_secret", &mut words)?;
+    }
+    Ok(())
 }
 
 fn main(rt: HostRuntime) -> Result<(), AllocError> {
