@@ -1,22 +1,20 @@
 // Runs the program on each stored input, run01 to run40, as scripts/readings_runs.py made them.
 #![tactic(auto)]
 
-fn digit(n: u32) -> u8 {
-    (48 + n % 10) as u8
-}
+use std::alloc::AllocError;
 
-fn replay(rt: &HostRuntime, n: u32) {
-    let path = [b'r', b'u', b'n', digit(n / 10), digit(n)];
-    let number = [b' ', digit(n / 10), digit(n), b'\n'];
-    programs::write(rt, b"run");
-    programs::write(rt, &number);
-    if let Some(mut file) = programs::open(rt, &path) {
+fn replay(rt: &HostRuntime, n: u32) -> Result<(), AllocError> {
+    let name = format!(in rt.alloc(); "run{n:02}")?;
+    let _ = println!(rt; "run {n:02}");
+    if let Some(mut file) = programs::open_named(rt, &name) {
         readings_files::run(&mut file, &mut rt.stdout());
     }
+    Ok(())
 }
 
-fn main(rt: HostRuntime) {
+fn main(rt: HostRuntime) -> Result<(), AllocError> {
     for n in 1..41 {
-        replay(&rt, n);
+        replay(&rt, n)?;
     }
+    Ok(())
 }
