@@ -2,32 +2,63 @@
 #![tactic(auto)]
 
 ghost use Rattle.std.specs.Prelude.{◌≡◌, ◌≤◌};
-ghost use Rattle.readings_commands.specs.Commands.{operands, over, basis_command, word_command, turn_of};
+ghost use Rattle.readings_commands.specs.Commands.{command_of, operands, over, basis_command, word_command, turn_of};
 
 use check_order::Refusal;
 use primus_decompose::ApproxSignedBasis;
 use primus_reduce::Modulus;
 use readings_core::{Session, Turn};
 
-// Bytes of operands: 6 for a basis, 4 for a word; an unknown command has none.
-pub fn operand_count(command: u8) -> usize
-    ensures { (result ≡ operands command) × (result ≤ 6) }
-{
-    match command {
-        1 => 6,
-        2 => 4,
-        _ => 0,
+// What a byte 01 or 02 asks for.
+#[derive(Clone, Copy)]
+pub enum Command {
+    Basis,
+    Word,
+}
+
+// Another byte is no command: 19.
+impl TryFrom<u8> for Command {
+    type Error = Refusal;
+
+    ghost try_from_gives = { λ byte command. command ≡ command_of byte };
+
+    fn try_from(byte: u8) -> Result<Command, Refusal> {
+        match byte {
+            1 => Ok(Command::Basis),
+            2 => Ok(Command::Word),
+            _ => Err(Refusal::Unreadable),
+        }
+    }
+}
+
+impl Command {
+    // Bytes of operands.
+    pub fn operand_count(self) -> usize
+        ensures { (result ≡ operands self) × (result ≤ 6) }
+    {
+        match self {
+            Command::Basis => 6,
+            Command::Word => 4,
+        }
+    }
+
+    // The answer to the operands that were there. Cut off: 19.
+    pub fn answer(self, session: Session, operands: &[u8]) -> Turn
+        ensures { result ≡ turn_of session self operands.now }
+    {
+        match self {
+            Command::Basis => basis_command(session, operands),
+            Command::Word => word_command(session, operands),
+        }
     }
 }
 
 // 19, and the end.
-#[tactic(auto, unfolding(readings_digits::specs::Digits::numbers))]
 pub fn end(session: Session) -> Turn
     ensures { result ≡ over session }
 {
     Turn {
         reply: Some(Err(Refusal::Unreadable)),
-        digits: [0; 16],
         session,
         more: false,
     }
@@ -54,15 +85,4 @@ fn word_command(session: Session, operands: &[u8]) -> Turn
         return end(session);
     }
     readings_core::on_word(session, little_endian::u32_at(operands, 0))
-}
-
-// One command and the operands that were there. Unknown or cut off: 19.
-pub fn answer(session: Session, command: u8, operands: &[u8]) -> Turn
-    ensures { result ≡ turn_of session command operands.now }
-{
-    match command {
-        1 => basis_command(session, operands),
-        2 => word_command(session, operands),
-        _ => end(session),
-    }
 }

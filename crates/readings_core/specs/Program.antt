@@ -1,8 +1,8 @@
 -- "The program `readings`": what a basis and a word answer, and what they leave for the next command.
-use Rattle.std.specs.Prelude.{true, List, ℕ, ℤ, pos, Option, Some, None, Result, Ok, Err}
+use Rattle.std.specs.Prelude.{true, ℕ, Option, Some, None, Result, Ok, Err}
 use Rattle.scheme.specs.Modulus as S
 use Rattle.scheme.specs.Basis as B
-use Rattle.primus_reduce.specs.Ring.{meant, number_of}
+use Rattle.primus_reduce.specs.Ring.{meant}
 use Rattle.readings_digits.specs.Digits.{numbers, shown_digit}
 use Rattle.primus_decompose.specs.Answers as A
 use Rattle.check_order.specs.declared.refusal.Refusal.{Refusal}
@@ -10,6 +10,7 @@ use Rattle.check_order.specs.declared.refusal.Refusal.TheVariants as F
 use Rattle.gadget_constants.specs.declared.word.Reading.{Reading}
 use Rattle.primus_decompose.specs.declared.primitive.basis.ApproxSignedBasis.{ApproxSignedBasis}
 use Rattle.readings_core.specs.declared.command.BasisReply.{BasisReply}
+use Rattle.readings_core.specs.declared.command.WordReply.{WordReply}
 use Rattle.readings_core.specs.declared.command.Reply.{Reply}
 use Rattle.readings_core.specs.declared.command.Reply.TheVariants.{Basis, Word}
 use Rattle.readings_core.specs.declared.command.Turn.{Turn}
@@ -22,7 +23,7 @@ Session = Option ApproxSignedBasis
 abbrev pub basis_line : ApproxSignedBasis → ℕ → BasisReply
 basis_line b t =
     record {
-      modulus = number_of b.modulus;
+      modulus = b.modulus;
       value_bits = S.bits 32 (meant b.modulus);
       log_basis = b.log_basis.0;
       level_count = b.level_count.0;
@@ -31,12 +32,8 @@ basis_line b t =
       threshold = t;
     }
 
--- only a word has digits
-abbrev pub no_digits : List ℤ
-no_digits = numbers 16 (λ j. pos 0)
-
 abbrev pub go : Result Reply Refusal → Session → Turn
-go r s = record { reply = Some r; digits = no_digits; session = s; more = true }
+go r s = record { reply = Some r; session = s; more = true }
 
 -- a basis is judged by 1 to 3 and 5, as T is answered; "A refused basis keeps the earlier one."
 abbrev pub after_basis : Session → ApproxSignedBasis → Result ℕ Refusal → Turn
@@ -46,15 +43,20 @@ after_basis s b (Err e) = go (Err e) s
 abbrev pub basis_turn : Session → ApproxSignedBasis → Turn
 basis_turn s b = after_basis s b (A.threshold_answer b)
 
--- "`word` a reading ε digits"; a word is judged by 1 to 3, 5 and 14, as its reading is answered
-abbrev pub word_from : ApproxSignedBasis → ℕ → Result Reading Refusal → Turn
-word_from b a (Ok r) =
+-- "`word` a reading ε digits"
+abbrev pub word_line : ApproxSignedBasis → ℕ → Reading → WordReply
+word_line b a r =
     record {
-      reply = Some (Ok (Word (record { word = a; reading = r.reading; error = r.error; level_count = b.level_count.0 })));
+      word = a;
+      reading = r.reading;
+      error = r.error;
       digits = numbers 16 (shown_digit b a);
-      session = Some b;
-      more = true;
+      level_count = b.level_count.0;
     }
+
+-- a word is judged by 1 to 3, 5 and 14, as its reading is answered
+abbrev pub word_from : ApproxSignedBasis → ℕ → Result Reading Refusal → Turn
+word_from b a (Ok r) = go (Ok (Word (word_line b a r))) (Some b)
 word_from b a (Err e) = go (Err e) (Some b)
 
 abbrev pub read_word : ApproxSignedBasis → ℕ → Turn

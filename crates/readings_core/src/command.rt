@@ -4,6 +4,8 @@ ghost use Rattle.readings_core.specs.Program.{basis_line, go, basis_turn, read_w
 
 use check_order::Refusal;
 use primus_decompose::ApproxSignedBasis;
+use primus_reduce::Modulus;
+use std::fmt;
 
 // The basis that was accepted last, if any.
 pub type Session = Option<ApproxSignedBasis>;
@@ -11,7 +13,7 @@ pub type Session = Option<ApproxSignedBasis>;
 // `basis` q (0 = native) k base-log L d H T
 #[derive(Clone, Copy)]
 pub struct BasisReply {
-    pub modulus: u32,
+    pub modulus: Modulus,
     pub value_bits: u32,
     pub log_basis: u32,
     pub level_count: usize,
@@ -20,12 +22,13 @@ pub struct BasisReply {
     pub threshold: u32,
 }
 
-// `word` a reading ε, and the number of its digits
+// `word` a reading ε digits: the digits are the first `level_count`, lowest first.
 #[derive(Clone, Copy)]
 pub struct WordReply {
     pub word: u32,
     pub reading: i64,
     pub error: i64,
+    pub digits: [i64; 16],
     pub level_count: usize,
 }
 
@@ -35,14 +38,41 @@ pub enum Reply {
     Word(WordReply),
 }
 
-// An answer, or no line; of a word its digits besides, lowest first; the session after it, and whether the program goes on.
+// An answer, or no line; the session after it, and whether the program goes on.
 #[derive(Clone, Copy)]
 pub struct Turn {
     pub reply: Option<Result<Reply, Refusal>>,
-    pub digits: [i64; 16],
     pub session: Session,
     // Stays: a fact of its own, and no flag of a value beside it: the other fields hold either way.
     pub more: bool,
+}
+
+impl fmt::Display for BasisReply {
+    fn fmt<W: fmt::Write>(&self, f: &mut fmt::Formatter<W>) -> fmt::Result {
+        let modulus = u32::from(self.modulus);
+        write!(f, "basis {modulus} {} {} ", self.value_bits, self.log_basis)?;
+        write!(f, "{} {} ", self.level_count, self.drop_bits)?;
+        write!(f, "{} {}", self.error_bound, self.threshold)
+    }
+}
+
+impl fmt::Display for WordReply {
+    fn fmt<W: fmt::Write>(&self, f: &mut fmt::Formatter<W>) -> fmt::Result {
+        write!(f, "word {} {} {}", self.word, self.reading, self.error)?;
+        for digit in self.digits.iter().take(self.level_count) {
+            write!(f, " {digit}")?;
+        }
+        Ok(())
+    }
+}
+
+impl fmt::Display for Reply {
+    fn fmt<W: fmt::Write>(&self, f: &mut fmt::Formatter<W>) -> fmt::Result {
+        match self {
+            Reply::Basis(r) => write!(f, "{r}"),
+            Reply::Word(r) => write!(f, "{r}"),
+        }
+    }
 }
 
 fn basis_line(b: ApproxSignedBasis, threshold: u32) -> BasisReply
@@ -50,9 +80,8 @@ fn basis_line(b: ApproxSignedBasis, threshold: u32) -> BasisReply
 {
     let log = b.log_basis();
     let levels = b.level_count();
-    let modulus = b.modulus();
     BasisReply {
-        modulus: u32::from(modulus),
+        modulus: b.modulus(),
         value_bits: b.value_bits(),
         log_basis: log.get(),
         level_count: levels.get(),
@@ -63,13 +92,11 @@ fn basis_line(b: ApproxSignedBasis, threshold: u32) -> BasisReply
 }
 
 // An answer after which the program goes on.
-#[tactic(auto, unfolding(readings_digits::specs::Digits::numbers))]
 fn next(reply: Result<Reply, Refusal>, session: Session) -> Turn
     ensures { result ≡ go reply session }
 {
     Turn {
         reply: Some(reply),
-        digits: [0; 16],
         session,
         more: true,
     }
@@ -92,17 +119,16 @@ fn read_word(b: ApproxSignedBasis, word: u32) -> Turn
 {
     let levels = b.level_count();
     match b.reading(word) {
-        Ok(r) => Turn {
-            reply: Some(Ok(Reply::Word(WordReply {
+        Ok(r) => {
+            let reply = WordReply {
                 word,
                 reading: r.reading,
                 error: r.error,
+                digits: readings_digits::of_word(b, word),
                 level_count: levels.get(),
-            }))),
-            digits: readings_digits::of_word(b, word),
-            session: Some(b),
-            more: true,
-        },
+            };
+            next(Ok(Reply::Word(reply)), Some(b))
+        }
         Err(refusal) => next(Err(refusal), Some(b)),
     }
 }

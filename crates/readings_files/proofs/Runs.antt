@@ -12,11 +12,12 @@ use lib.ListN.{length, take, get_or, length-append, get_or-append}
 use Rattle.std.proofs.Common.{Option, Some, None}
 use lib.Seq.{take-append-le, take-append_seam, get_or-append_seam}
 use Rattle.readings_core.specs.declared.command.Turn.{Turn}
+use Rattle.readings_commands.specs.declared.Command.{Command}
 use Rattle.readings_reader.specs.declared.reader.Reader.{Reader}
 use Rattle.readings_reader.specs.Run.{Line, due, start, fed, cut_off, finished, lines_fed, lines_of}
 use Rattle.readings_reader.proofs.Whole.{whole_run}
 use Rattle.readings_steps.specs.declared.step.Step.{Step}
-use Rattle.readings_steps.specs.Steps.{fed_all, turns_fed, step_of}
+use Rattle.readings_steps.specs.Steps.{fed_all, turns_fed, step_of, ended}
 use Rattle.readings_steps.proofs.Fed.{fed-append, length-turns, take_places}
 use Rattle.readings_files.specs.Runs.{Stepped, joined, ended_at, Ran, dues, handed}
 
@@ -58,22 +59,22 @@ module _ {m : Reader} {done : ℕ} (r : Reached m done) {s : Step} (p : Stepped 
 
   earlier : (i : ℕ) → i < length r.reads → ended_at more i ≡ false
   earlier i h =
-      ap₂ (λ (rs : List (List ℕ)) (xs : List ℕ). (step_of (fed_all start (joined rs)) xs).ended)
+      ap₂ (λ (rs : List (List ℕ)) (xs : List ℕ). ended (step_of (fed_all start (joined rs)) xs))
       (take-append-le i r.reads (p.bytes ∷ []) (omega arith)) (get_or-append r.reads (p.bytes ∷ []) [] i h)
       ∙ r.goes_on i h
 
-  newest : ended_at more (length r.reads) ≡ s.ended
+  newest : ended_at more (length r.reads) ≡ ended s
   newest =
-      ap₂ (λ (rs : List (List ℕ)) (xs : List ℕ). (step_of (fed_all start (joined rs)) xs).ended)
+      ap₂ (λ (rs : List (List ℕ)) (xs : List ℕ). ended (step_of (fed_all start (joined rs)) xs))
       (take-append_seam r.reads (p.bytes ∷ [])) (get_or-append_seam r.reads p.bytes [] [])
-      ∙ ap (λ m. (step_of m p.bytes).ended) (sym r.fed-so) ∙ ap (λ s. s.ended) (sym p.so)
+      ∙ ap (λ m. ended (step_of m p.bytes)) (sym r.fed-so) ∙ ap ended (sym p.so)
 
   new_reader : s.reader ≡ fed_all start (joined more)
   new_reader =
       ap (λ s. s.reader) p.so ∙ ap (λ m. fed_all m p.bytes) r.fed-so
       ∙ sym (fed-append start (joined r.reads) p.bytes) ∙ ap (fed_all start) (sym (joined_one r.reads p.bytes))
 
-  pub again : s.ended ≡ false → Reached s.reader (done + 1)
+  pub again : ended s ≡ false → Reached s.reader (done + 1)
   again e =
       record {
         reads = more;
@@ -87,7 +88,7 @@ module _ {m : Reader} {done : ℕ} (r : Reached m done) {s : Step} (p : Stepped 
       go i k (yes q) = ap (ended_at more) q ∙ newest ∙ e
       go i k (no q) = earlier i (omega (arith, one_longer))
 
-  pub stop : done < 2 ^ 64 - 1 → s.ended ≡ true → {t : Turn} → t ≡ finished s.reader → Ran t
+  pub stop : done < 2 ^ 64 - 1 → ended s ≡ true → {t : Turn} → t ≡ finished s.reader → Ran t
   stop h e f =
       record {
         reads = more;
@@ -138,6 +139,6 @@ run_ends {t} r = ap (λ t. t.more) r.last ∙ go (fed_all start (joined r.reads)
     go : (m : Reader) → (finished m).more ≡ false
     go m = at m.command
       where
-        at : (c : Option ℕ) → (cut_off m.turn.session c).more ≡ false
+        at : (c : Option Command) → (cut_off m.turn.session c).more ≡ false
         at (Some c) = refl
         at None = refl

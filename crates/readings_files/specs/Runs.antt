@@ -4,7 +4,7 @@ use Rattle.readings_core.specs.declared.command.Turn.{Turn}
 use Rattle.readings_reader.specs.declared.reader.Reader.{Reader}
 use Rattle.readings_reader.specs.Run.{Line, due, start, finished}
 use Rattle.readings_steps.specs.declared.step.Step.{Step}
-use Rattle.readings_steps.specs.Steps.{fed_all, step_of}
+use Rattle.readings_steps.specs.Steps.{fed_all, step_of, ended}
 
 -- s is what one read leaves, of some bytes: no contract can say which
 pub record Stepped (m : Reader) (s : Step) : Type 0 where
@@ -18,7 +18,7 @@ joined (xs ∷ rs) = xs ++ joined rs
 
 -- read i ends the run
 abbrev pub ended_at : List (List ℕ) → ℕ → Bool
-ended_at rs i = (step_of (fed_all start (joined (take i rs))) (get_or rs i [])).ended
+ended_at rs i = ended (step_of (fed_all start (joined (take i rs))) (get_or rs i []))
 
 -- t is the last answer of a run over some reads: none ends the run before the last, which does, unless it is read number 2^64 − 1
 pub record Ran (t : Turn) : Type 0 where

@@ -39,7 +39,7 @@ pub fn run(input: &mut impl Read, output: &mut impl Write) -> Turn
     for _read in 0..u64::MAX {
         let s = read_some(m, input, output);
         m = s.reader;
-        if s.ended {
+        if s.ended() {
             return last(m, output);
         }
     }

@@ -1,42 +1,40 @@
 -- Byte by byte, the reader says the lines of the whole input.
 -- Assumes nothing.
-use mathlib.Core.Path.{◌≡◌, refl, sym, ap, ◌∙◌, subst}
+use mathlib.Core.Path.{◌≡◌, refl, sym, ap, ◌∙◌}
 use mathlib.Core.Bool.{Bool, true, false}
 use mathlib.Core.List.{List, [], ◌∷◌, ◌++◌, append-nil, append_assoc}
 use Prim.Native.Nat.{ℕ, zero, suc, ◌+◌, ◌-◌, ◌≤◌, ◌<◌}
 use native.Mathlib.Numerals.{add-one}
 use native.Mathlib.Decide.{ℕ_discrete}
 use native.Mathlib.Omega.{arith}
-use lib.Dec.{eqb}
 use lib.ListN.{length, take, drop, set, length-append, length-set}
 use lib.Seq.{take_all, take-suc-set}
-use borrow.Author.Tests.{le-leb, lt-leb, lt-ltb, eq-eqb, ne_eqb}
+use borrow.Author.Tests.{le-leb, lt-leb, lt-ltb}
 use Rattle.scheme.specs.Numbers.{pick}
-use Rattle.readings_commands.specs.Commands.{operands, over, turn_of}
-use Rattle.readings_reader.specs.Run.{Line, due, lines_within, lines_of, silent, start, settled_by, fed, finished, lines_fed}
-use Rattle.std.proofs.Common.{Some, None}
+use Rattle.readings_commands.specs.Commands.{command_of, operands, over, turn_of}
+use Rattle.readings_reader.specs.Run.{Line, due, operands_by, turn_by, lines_within, lines_of, silent, start, settled_by, begun_by, fed, finished, lines_fed}
+use Rattle.std.proofs.Common.{Some, None, Result, Ok, Err}
 use Rattle.readings_core.specs.Program.{Session}
 use Rattle.readings_core.specs.declared.command.Turn.{Turn}
+use Rattle.check_order.specs.declared.refusal.Refusal.{Refusal}
+use Rattle.readings_commands.specs.declared.Command.{Command}
+use Rattle.readings_commands.specs.declared.Command.TheVariants.{Basis, Word}
 use Rattle.readings_reader.specs.declared.reader.Reader.{Reader}
 
 -- a command takes at most six operand bytes
-few : (c : ℕ) → operands c ≤ 6
-few c = go (eqb c 1) (eqb c 2)
-  where
-    go : (x y : Bool) → pick x 6 (pick y 4 0) ≤ 6
-    go true y = omega arith
-    go false true = omega arith
-    go false false = omega arith
+few : (c : Command) → operands c ≤ 6
+few Basis = omega arith
+few Word = omega arith
+
+-- and at least one
+some : (c : Command) → 0 < operands c
+some Basis = omega arith
+some Word = omega arith
 
 -- a command whose operands are cut off gets 19
-cut : (s : Session) (c : ℕ) (xs : List ℕ) → length xs < operands c → turn_of s c xs ≡ over s
-cut s c xs h = go (ℕ_discrete c 1) (ℕ_discrete c 2)
-  where
-    go : Dec (c ≡ 1) → Dec (c ≡ 2) → turn_of s c xs ≡ over s
-    go (yes p) d = let l : length xs < 6 = subst (λ c. length xs < operands c) p h in rw (eq-eqb c 1 p, lt-leb 6 (length xs) l) refl
-    go (no p) (yes r) =
-        let l : length xs < 4 = subst (λ c. length xs < operands c) r h in rw (ne_eqb c 1 p, eq-eqb c 2 r, lt-leb 4 (length xs) l) refl
-    go (no p) (no r) = rw (ne_eqb c 1 p, ne_eqb c 2 r) refl
+cut : (s : Session) (c : Command) (xs : List ℕ) → length xs < operands c → turn_of s c xs ≡ over s
+cut s Basis xs h = rw (lt-leb 6 (length xs) h) refl
+cut s Word xs h = rw (lt-leb 4 (length xs) h) refl
 
 -- after 19 there are no lines
 pub ended : (m : Reader) → m.turn.more ≡ false → m.command ≡ None → (xs : List ℕ) → lines_fed m xs ≡ []
@@ -55,7 +53,7 @@ pub record Waits (s : Session) (m : Reader) : Type 0 where
   pub room : length m.held ≡ 6
 
 -- a reader that has the command c and the operand bytes zs, fewer than it takes
-pub record Gathers (s : Session) (c : ℕ) (zs : List ℕ) (m : Reader) : Type 0 where
+pub record Gathers (s : Session) (c : Command) (zs : List ℕ) (m : Reader) : Type 0 where
   pub in_session : m.turn.session ≡ s
   pub goes_on : m.turn.more ≡ true
   pub the_command : m.command ≡ Some c
@@ -65,15 +63,15 @@ pub record Gathers (s : Session) (c : ℕ) (zs : List ℕ) (m : Reader) : Type 0
   pub short : length zs < operands c
 
 -- such a reader
-abbrev begins : Session → ℕ → List ℕ → ℕ → Reader
+abbrev begins : Session → Command → List ℕ → ℕ → Reader
 begins s c hs k = record { turn = silent s true; command = Some c; held = hs; count = k }
 
-begins-so : (s : Session) (c : ℕ) (hs : List ℕ) (k : ℕ) → k < operands c → settled_by s c hs k ≡ begins s c hs k
+begins-so : (s : Session) (c : Command) (hs : List ℕ) (k : ℕ) → k < operands c → settled_by s c hs k ≡ begins s c hs k
 begins-so s c hs k h = rw (lt-leb (operands c) k h) refl
 
 -- ---- one byte
 
-module _ {s : Session} {c : ℕ} {zs : List ℕ} {m : Reader} (g : Gathers s c zs m) where
+module _ {s : Session} {c : Command} {zs : List ℕ} {m : Reader} (g : Gathers s c zs m) where
   fed_gathers : (y : ℕ) → fed m y ≡ settled_by s c (set m.held (length zs) y) (length zs + 1)
   unfolding fed
   fed_gathers y =
@@ -87,11 +85,11 @@ module _ {s : Session} {c : ℕ} {zs : List ℕ} {m : Reader} (g : Gathers s c z
       ∙ ap (λ (xs : List ℕ). xs ++ y ∷ []) g.holds
 
 -- the end of the input, in the midst of a command
-cut_short : {s : Session} {c : ℕ} {zs : List ℕ} {m : Reader} → Gathers s c zs m → lines_fed m [] ≡ due (over s)
+cut_short : {s : Session} {c : Command} {zs : List ℕ} {m : Reader} → Gathers s c zs m → lines_fed m [] ≡ due (over s)
 unfolding lines_fed finished
 cut_short g = rw g.the_command refl
 
-fed_waits : {s : Session} {m : Reader} → Waits s m → (c : ℕ) → fed m c ≡ settled_by s c m.held 0
+fed_waits : {s : Session} {m : Reader} → Waits s m → (c : ℕ) → fed m c ≡ begun_by s m.held (command_of c)
 unfolding fed
 fed_waits w c = rw (w.goes_on, w.none_begun, w.in_session) refl
 
@@ -113,7 +111,7 @@ abbrev Known : ℕ → Type 0
 Known n = (s : Session) (m : Reader) → Waits s m → (xs : List ℕ) → length xs ≤ n → lines_fed m xs ≡ lines_within n s xs
 
 module _ (n : ℕ) (known : Known n) where
-  after-whole : (s : Session) (c : ℕ) (hs : List ℕ) (k : ℕ) (ys : List ℕ) → length hs ≡ 6 → operands c ≤ k → length ys ≤ n
+  after-whole : (s : Session) (c : Command) (hs : List ℕ) (k : ℕ) (ys : List ℕ) → length hs ≡ 6 → operands c ≤ k → length ys ≤ n
       → from (settled_by s c hs k) ys ≡ lines n (turn_of s c (take k hs)) ys
   after-whole s c hs k ys r h l = ap (λ m. from m ys) whole ∙ ap (λ (xs : List Line). due (turn_of s c (take k hs)) ++ xs) (go (turn_of s c (take k hs)).more refl)
     where
@@ -127,7 +125,7 @@ module _ (n : ℕ) (known : Known n) where
       go true e = known _ there (record { in_session = refl; goes_on = e; none_begun = refl; room = r }) ys l
       go false e = ended there e refl ys
 
-  gather : (ys zs : List ℕ) {s : Session} {c : ℕ} {m : Reader} → Gathers s c zs m → length ys ≤ n
+  gather : (ys zs : List ℕ) {s : Session} {c : Command} {m : Reader} → Gathers s c zs m → length ys ≤ n
       → lines_fed m ys ≡ lines n (turn_of s c (zs ++ take (operands c - length zs) ys)) (drop (operands c - length zs) ys)
   gather [] zs {s} {c} {m} g l = cut_short g ∙ sym (ap (λ t. lines n t (drop (operands c - length zs) [])) (ap (turn_of s c) none ∙ cut s c zs g.short))
     where
@@ -180,15 +178,13 @@ none_left w = rw w.none_begun refl
 next : (n : ℕ) → Known n → Known (suc n)
 unfolding lines_within
 next n known s m w [] l = none_left w
-next n known s m w (c ∷ xs) l = lines_next m c xs ∙ ap (λ r. from r xs) (fed_waits w c) ∙ go (ℕ_discrete (operands c) 0)
+next n known s m w (x ∷ xs) l = lines_next m x xs ∙ ap (λ r. from r xs) (fed_waits w x) ∙ go (command_of x)
   where
-    go : Dec (operands c ≡ 0) → from (settled_by s c m.held 0) xs ≡ lines n (turn_of s c (take (operands c) xs)) (drop (operands c) xs)
-    go (yes p) =
-        after-whole n known s c m.held 0 xs w.room (omega arith) (omega arith)
-        ∙ ap (λ k. lines n (turn_of s c (take k xs)) (drop k xs)) (sym p)
-    go (no p) =
+    go : (r : Result Command Refusal) → from (begun_by s m.held r) xs ≡ lines n (turn_by s r (take (operands_by r) xs)) (drop (operands_by r) xs)
+    go (Err e) = ap (λ (ls : List Line). due (over s) ++ ls) (ended _ refl refl xs)
+    go (Ok c) =
         let all : operands c - 0 ≡ operands c = omega arith in
-        ap (λ r. from r xs) (begins-so s c m.held 0 (omega arith))
+        ap (λ r. from r xs) (begins-so s c m.held 0 (some c))
         ∙ gather n known xs [] {s = s} {c = c} {m = begins s c m.held 0}
         (record {
           in_session = refl;
@@ -197,7 +193,7 @@ next n known s m w (c ∷ xs) l = lines_next m c xs ∙ ap (λ r. from r xs) (fe
           room = w.room;
           counted = refl;
           holds = refl;
-          short = omega arith;
+          short = some c;
         }) (omega arith)
         ∙ ap (λ k. lines n (turn_of s c (take k xs)) (drop k xs)) all
 

@@ -1,25 +1,42 @@
 -- A whole run of the program: its commands one after the other, and the same byte by byte.
-use Rattle.std.specs.Prelude.{Bool, true, false, List, [], ◌∷◌, ◌++◌, ℕ, zero, suc, ◌+◌, leb, ltb, ℤ, length, take, drop, set, Option, Some, None, Result}
+use Rattle.std.specs.Prelude.{Bool, true, false, List, [], ◌∷◌, ◌++◌, ℕ, zero, suc, ◌+◌, leb, ltb, length, take, drop, set, Option, Some, None, Result, Ok, Err}
 use Rattle.scheme.specs.Numbers.{pick}
-use Rattle.readings_core.specs.Program.{Session, no_digits}
-use Rattle.readings_commands.specs.Commands.{operands, over, turn_of}
+use Rattle.readings_core.specs.Program.{Session}
+use Rattle.readings_commands.specs.Commands.{command_of, operands, over, turn_of}
 use Rattle.check_order.specs.declared.refusal.Refusal.{Refusal}
 use Rattle.readings_core.specs.declared.command.Reply.{Reply}
 use Rattle.readings_core.specs.declared.command.Turn.{Turn}
+use Rattle.readings_commands.specs.declared.Command.{Command}
 use Rattle.readings_reader.specs.declared.reader.Reader.{Reader}
 
--- a line of output: an answer, of a word its digits besides
-pub record Line : Type 0 where
-  pub reply : Result Reply Refusal
-  pub digits : List ℤ
+-- a line of output: an answer
+abbrev pub Line : Type 0
+Line = Result Reply Refusal
 
 -- the line of an answer, where there is one
-abbrev pub said : Option (Result Reply Refusal) → List ℤ → List Line
-said None ds = []
-said (Some r) ds = record { reply = r; digits = ds } ∷ []
+abbrev pub said : Option Line → List Line
+said None = []
+said (Some r) = r ∷ []
 
 abbrev pub due : Turn → List Line
-due t = said t.reply t.digits
+due t = said t.reply
+
+-- the operand bytes of a command; what is no command has none
+abbrev pub operands_by : Result Command Refusal → ℕ
+operands_by (Ok c) = operands c
+operands_by (Err e) = 0
+
+-- the turn of a command; what is none gets 19
+abbrev pub turn_by : Session → Result Command Refusal → List ℕ → Turn
+turn_by s (Ok c) xs = turn_of s c xs
+turn_by s (Err e) xs = over s
+
+-- the same of the byte that asks for it
+abbrev pub byte_operands : ℕ → ℕ
+byte_operands c = operands_by (command_of c)
+
+abbrev pub byte_turn : Session → ℕ → List ℕ → Turn
+byte_turn s c xs = turn_by s (command_of c) xs
 
 -- "Standard input holds commands of one byte", each with the operand bytes that it takes, or that are left;
 -- the run ends with the input, or after 19. n bounds the number of commands.
@@ -27,9 +44,9 @@ unfoldable pub lines_within : ℕ → Session → List ℕ → List Line
 lines_within zero s xs = []
 lines_within (suc n) s [] = []
 lines_within (suc n) s (c ∷ xs) =
-    due (turn_of s c (take (operands c) xs))
-    ++ pick (turn_of s c (take (operands c) xs)).more
-    (lines_within n (turn_of s c (take (operands c) xs)).session (drop (operands c) xs))
+    due (byte_turn s c (take (byte_operands c) xs))
+    ++ pick (byte_turn s c (take (byte_operands c) xs)).more
+    (lines_within n (byte_turn s c (take (byte_operands c) xs)).session (drop (byte_operands c) xs))
     []
 
 -- the lines of a whole input: it has no more commands than bytes
@@ -39,7 +56,7 @@ lines_of xs = lines_within (length xs) None xs
 -- ---- byte by byte
 
 abbrev pub silent : Session → Bool → Turn
-silent s more = record { reply = None; digits = no_digits; session = s; more = more }
+silent s more = record { reply = None; session = s; more = more }
 
 -- before the first byte
 abbrev pub start : Reader
@@ -54,16 +71,21 @@ abbrev pub one_more : ℕ → ℕ
 one_more n = pick (ltb n 6) (n + 1) 6
 
 -- the command c with n operand bytes: answered where it takes no more
-abbrev pub settled_by : Session → ℕ → List ℕ → ℕ → Reader
+abbrev pub settled_by : Session → Command → List ℕ → ℕ → Reader
 settled_by s c xs n =
     pick (leb (operands c) n)
     (record { turn = turn_of s c (take n xs); command = None; held = xs; count = 0 })
     (record { turn = silent s true; command = Some c; held = xs; count = n })
 
+-- a command begins; what is none gets 19
+abbrev pub begun_by : Session → List ℕ → Result Command Refusal → Reader
+begun_by s xs (Ok c) = settled_by s c xs 0
+begun_by s xs (Err e) = record { turn = over s; command = None; held = xs; count = 0 }
+
 -- the operand of a command that has begun, or the next command
-abbrev pub taken : Reader → ℕ → Option ℕ → Reader
+abbrev pub taken : Reader → ℕ → Option Command → Reader
 taken m x (Some c) = settled_by m.turn.session c (put m.held m.count x) (one_more m.count)
-taken m x None = settled_by m.turn.session x m.held 0
+taken m x None = begun_by m.turn.session m.held (command_of x)
 
 -- one byte more
 unfoldable pub fed : Reader → ℕ → Reader
@@ -72,7 +94,7 @@ fed m x =
     (record { turn = silent m.turn.session false; command = None; held = m.held; count = 0 })
 
 -- a command that has begun is cut off by the end of the input
-abbrev pub cut_off : Session → Option ℕ → Turn
+abbrev pub cut_off : Session → Option Command → Turn
 cut_off s (Some c) = over s
 cut_off s None = silent s false
 

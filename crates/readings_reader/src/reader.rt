@@ -1,27 +1,27 @@
 // Commands out of bytes: which bytes make one, what each answers, and what the end of the input leaves.
 ghost use Rattle.std.specs.Prelude.{◌≡◌, ◌≤◌};
-ghost use Rattle.readings_reader.specs.Run.{silent, start, put, one_more, settled_by, fed, finished};
+ghost use Rattle.readings_commands.specs.Commands.{command_of};
+ghost use Rattle.readings_reader.specs.Run.{silent, start, put, one_more, settled_by, begun_by, fed, finished};
 
+use readings_commands::Command;
 use readings_core::{Session, Turn};
 
-// The answer to the last byte, and the byte of a command that has begun, with the operand bytes that came so far.
+// The answer to the last byte, and the command that has begun, with the operand bytes that came so far.
 #[derive(Clone, Copy)]
 pub struct Reader {
     pub turn: Turn,
-    pub command: Option<u8>,
-    // Stays: an array and how much of it is filled: fixed memory, since the program has no heap.
+    pub command: Option<Command>,
+    // Stays: an array and how much of it is filled: `arrayvec::ArrayVec` is not Copy, and a reader is handed on by value.
     pub held: [u8; 6],
     pub count: usize,
 }
 
 // No line: a command is not whole yet, or there is none.
-#[tactic(auto, unfolding(readings_digits::specs::Digits::numbers))]
 fn quiet(session: Session, more: bool) -> Turn
     ensures { result ≡ silent session more }
 {
     Turn {
         reply: None,
-        digits: [0; 16],
         session,
         more,
     }
@@ -45,13 +45,13 @@ fn one_more(count: usize) -> usize
 }
 
 // A command is answered once it has as many operand bytes as it takes.
-fn settled(session: Session, command: u8, held: [u8; 6], count: usize) -> Reader
+fn settled(session: Session, command: Command, held: [u8; 6], count: usize) -> Reader
     requires { count ≤ 6 }
     ensures { result ≡ settled_by session command held count }
 {
-    if readings_commands::operand_count(command) <= count {
+    if command.operand_count() <= count {
         return Reader {
-            turn: readings_commands::answer(session, command, &held[..count]),
+            turn: command.answer(session, &held[..count]),
             command: None,
             held,
             count: 0,
@@ -62,6 +62,21 @@ fn settled(session: Session, command: u8, held: [u8; 6], count: usize) -> Reader
         command: Some(command),
         held,
         count,
+    }
+}
+
+// The byte of a command; another gets 19 at once.
+fn begun(session: Session, held: [u8; 6], byte: u8) -> Reader
+    ensures { result ≡ begun_by session held (command_of byte) }
+{
+    match Command::try_from(byte) {
+        Ok(command) => settled(session, command, held, 0),
+        Err(_) => Reader {
+            turn: readings_commands::end(session),
+            command: None,
+            held,
+            count: 0,
+        },
     }
 }
 
@@ -95,7 +110,7 @@ impl Reader {
                     with_operand(held, count, byte),
                     one_more(count),
                 ),
-                None => settled(session, byte, held, 0),
+                None => begun(session, held, byte),
             };
         }
         Reader {

@@ -1,7 +1,6 @@
 -- Readers fed byte by byte, and the places of what they say.
 -- Assumes nothing.
 use mathlib.Core.Path.{◌≡◌, refl, sym, ap, ap₂, ◌∙◌}
-use mathlib.Core.Bool.{Bool}
 use mathlib.Core.List.{List, [], ◌∷◌, ◌++◌}
 use Prim.Native.Nat.{ℕ, zero, suc, ◌+◌, ◌≤◌, ◌<◌}
 use native.Mathlib.Numerals.{add-one}
@@ -12,7 +11,7 @@ use Rattle.readings_core.specs.declared.command.Turn.{Turn}
 use Rattle.readings_reader.specs.declared.reader.Reader.{Reader}
 use Rattle.readings_reader.specs.Run.{fed}
 use Rattle.readings_steps.specs.declared.step.Step.{Step}
-use Rattle.readings_steps.specs.Steps.{fed_all, turns_fed, places, ended, step_of}
+use Rattle.readings_steps.specs.Steps.{fed_all, turns_fed, places, step_of}
 
 pub fed-append : (m : Reader) (xs ys : List ℕ) → fed_all m (xs ++ ys) ≡ fed_all (fed_all m xs) ys
 unfolding fed_all
@@ -90,13 +89,10 @@ module _ (n : ℕ) (m r : Reader) (xs : List ℕ) (i : ℕ) (h : i < length xs) 
   full_next k t ts f = f ∙ full n t (turns_fed m (take i xs)) (fed r (get_or xs i 0)).turn (omega (arith, counted)) ∙ ap (places n t) turns_next
 
 -- all bytes are fed
-pub step_so : (m r : Reader) (xs : List ℕ) (n : ℕ) (ts : List Turn) (b : Bool) → length xs ≤ n → r ≡ fed_all m (take n xs)
-    → ts ≡ places 64 m.turn (turns_fed m (take n xs)) → b ≡ ended r (length xs)
-    → ◌≡◌ {A = Step} (record { reader = r; turns = ts; count = length xs; ended = b }) (step_of m xs)
-step_so m r xs n ts b k er et eb =
+pub step_so : (m r : Reader) (xs : List ℕ) (n : ℕ) (ts : List Turn) → length xs ≤ n → r ≡ fed_all m (take n xs)
+    → ts ≡ places 64 m.turn (turns_fed m (take n xs))
+    → ◌≡◌ {A = Step} (record { reader = r; turns = ts; count = length xs }) (step_of m xs)
+step_so m r xs n ts k er et =
     let all : take n xs ≡ xs = take_all n xs k in
-    let reader_so : r ≡ fed_all m xs = er ∙ ap (fed_all m) all in
-    let turns-so : ts ≡ places 64 m.turn (turns_fed m xs) = et ∙ ap (λ (ys : List ℕ). places 64 m.turn (turns_fed m ys)) all in
-    ap₂ (λ (r : Reader) (ts : List Turn). record { reader = r; turns = ts; count = length xs; ended = b }) reader_so turns-so
-    ∙ ap (λ (b : Bool). record { reader = fed_all m xs; turns = places 64 m.turn (turns_fed m xs); count = length xs; ended = b })
-    (eb ∙ ap (λ (r : Reader). ended r (length xs)) reader_so)
+    ap₂ (λ (r : Reader) (ts : List Turn). record { reader = r; turns = ts; count = length xs })
+    (er ∙ ap (fed_all m) all) (et ∙ ap (λ (ys : List ℕ). places 64 m.turn (turns_fed m ys)) all)

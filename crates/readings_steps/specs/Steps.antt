@@ -22,15 +22,14 @@ places zero t ts = []
 places (suc n) t [] = t ∷ places n t []
 places (suc n) t (u ∷ ts) = u ∷ places n t ts
 
--- the input has ended where a read gives no byte; "After 19 it ends."
-abbrev pub ended : Reader → ℕ → Bool
-ended m n = pick (eqb n 0) true (not m.turn.more)
-
 abbrev pub step_of : Reader → List ℕ → Step
 step_of m xs =
     record {
       reader = fed_all m xs;
       turns = places 64 m.turn (turns_fed m xs);
       count = length xs;
-      ended = ended (fed_all m xs) (length xs);
     }
+
+-- the input has ended where a read gives no byte; "After 19 it ends."
+abbrev pub ended : Step → Bool
+ended s = pick (eqb s.count 0) true (not s.reader.turn.more)

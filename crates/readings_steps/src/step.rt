@@ -1,4 +1,4 @@
-// What the bytes of one read leave: the reader after them, what it said after each, and whether the run has ended.
+// What the bytes of one read leave: the reader after them, and what it said after each.
 ghost use Rattle.std.specs.Prelude.{◌≡◌, length};
 ghost use Rattle.readings_steps.specs.Steps.{ended, step_of};
 
@@ -9,22 +9,20 @@ use readings_reader::Reader;
 #[derive(Clone, Copy)]
 pub struct Step {
     pub reader: Reader,
-    // Stays: an array and how much of it is filled: fixed memory, since the program has no heap.
+    // Stays: an array and how much of it is filled: `arrayvec::ArrayVec` is not Copy, and a step is handed on by value.
     pub turns: [Turn; 64],
     pub count: usize,
-    // Stays: a fact of its own, and no flag of a value beside it: the other fields hold either way.
-    pub ended: bool,
 }
 
-// "After 19 it ends"; the input has ended where a read gives no byte.
-fn has_ended(m: Reader, count: usize) -> bool
-    ensures { result ≡ ended m count }
-{
-    let turn = m.turn;
-    if count == 0 {
-        return true;
+impl Step {
+    // Whether the run has ended: "After 19 it ends", and the input has ended where a read gives no byte.
+    pub fn ended(&self) -> bool
+        ensures { result ≡ ended self.now }
+    {
+        let reader = self.reader;
+        let turn = reader.turn;
+        self.count == 0 || !turn.more
     }
-    !turn.more
 }
 
 // Feeds the bytes of one read. Places without a byte hold the turn before.
@@ -45,6 +43,5 @@ pub fn feed_all(before: Reader, bytes: &[u8]) -> Step
         reader: m,
         turns,
         count: bytes.len(),
-        ended: has_ended(m, bytes.len()),
     }
 }

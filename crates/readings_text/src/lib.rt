@@ -3,4 +3,4 @@
 
 mod print;
 
-pub use print::{magnitude, print_turn, print_turns};
+pub use print::{print_turn, print_turns};
