@@ -1,6 +1,6 @@
 -- What the checks of a switch leave.
 -- Assumes nothing.
-use mathlib.Core.Path.{◌≡◌, sym}
+use mathlib.Core.Path.{◌≡◌, sym, ◌∙◌, ap, subst}
 use mathlib.Core.Bool.{Bool, false}
 use mathlib.Core.List.{List}
 use Prim.Native.Nat.{ℕ, ◌+◌, ◌*◌, ◌/◌, ◌%◌}
@@ -38,10 +38,14 @@ module _ {P : LweKeySwitchingParameters} {key input : List ℕ} {room : ℕ} whe
         words = words_ok _ input words.1;
       }
 
-  pub batch_passed : 0 ≡ refusal (batch_rows P key input room) → Switchable P key input (length input / (n_in P + 1)) room
+  batch_passed : 0 ≡ refusal (batch_rows P key input room) → Switchable P key input (length input / (n_in P + 1)) room
   batch_passed told =
       let no = passed (batch_rows P key input room) (sym told) in
       switchable _ _ _ (sym told) (batch_whole (length input) (n_in P) (no 10 tt)) (length_ok _ _ (no 11 tt))
+
+  -- with the numbers at hand
+  pub rows_passed : {n count : ℕ} → n ≡ n_in P → count ≡ length input / (n + 1) → 0 ≡ refusal (batch_rows P key input room) → Switchable P key input count room
+  rows_passed en ec told = subst (λ k. Switchable P key input k room) (sym (ec ∙ ap (λ n. length input / (n + 1)) en)) (batch_passed told)
 
   pub one_passed : 0 ≡ refusal (switch_rows P key input room) → Switchable P key input 1 room
   one_passed told =
