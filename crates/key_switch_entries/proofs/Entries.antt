@@ -13,7 +13,7 @@ use lib.Pow.{pow_pos, pow_mono}
 use borrow.Author.Tests.{eqb-true, lt-ltb}
 use Rattle.scheme.specs.Numbers.{tabulate, rows_of}
 use Rattle.scheme.specs.Basis.{weight}
-use Rattle.scheme.specs.Lwe.{Key, key_length, signed, encrypted}
+use Rattle.scheme.specs.Lwe.{Key, signed, encrypted}
 use Rattle.scheme.specs.Switch.{generated_entry, generated}
 use Rattle.scheme.specs.Checks.{refusal, length_fails}
 use Rattle.scheme.proofs.Residue.{cong_refl, cong_trans, cong_of_eq, cong_mul}
@@ -105,36 +105,35 @@ weights_are b {p} ep r e j h =
     below = omega (arith, weight-below (basis_in p) r.sound.accepted j h, r.sound.accepted.covered, pow_mono {i = (basis_in p).bits} {j = 32} r.sound.bits-within)
 
 -- what the loop asks, with the numbers at hand; and that it writes the key of the parameters
-module _ {P : LweKeySwitchingParameters} {p : PreparedBasis} {output masks : List ℕ} {errors : List ℤ} {room : ℕ} (g : Generable P output masks errors room)
-    (r : Ready p × (p ≡ prepared_by P.basis)) where
-  pub entering : {weights : List ℕ} → weights ≡ tabulate 16 (weight_word P.basis) → Entering p weights (length output) masks errors room
+module _ {P : LweKeySwitchingParameters} {p : PreparedBasis} {masks : List ℕ} {errors : List ℤ} {room : ℕ} (g : Generable P masks errors room)
+    (r : Ready p × (p ≡ prepared_by P.basis)) {m : ℕ} (em : m ≡ m_in P) where
+  pub entering : {weights : List ℕ} → weights ≡ tabulate 16 (weight_word P.basis) → Entering p weights m masks errors room
   entering ew =
       record {
         ready = r.0;
         weighted = weights_are P.basis r.1 r.0 ew;
-        fits = g.fits ∙ ap₂ (λ (k m : ℕ). k * (m + 1)) (sym g.errored) (sym g.keyed);
-        masked = g.masked ∙ ap₂ ◌*◌ (sym g.errored) (sym g.keyed);
+        fits = g.fits ∙ ap₂ (λ (k m : ℕ). k * (m + 1)) (sym g.errored) (sym em);
+        masked = g.masked ∙ ap₂ ◌*◌ (sym g.errored) (sym em);
       }
 
-  pub entered_end : (s s' : ℕ → ℤ) {out₀ out : List ℕ} {k : ℕ} → Entered p (length output) s s' errors masks out₀ out k → length errors ≤ k
+  pub entered_end : (s s' : ℕ → ℤ) {out₀ out : List ℕ} {k : ℕ} → Entered p m s s' errors masks out₀ out k → length errors ≤ k
       → out ≡ generated (basis P.basis) (n_in P) (m_in P) s s' (signed errors) masks
   unfolding generated
   entered_end s s' f h =
-      filling_end f h ∙ ap (λ k. rows_of k (generated_entry (basis_in p) (length output) s s' (signed errors) masks)) g.errored
-      ∙ ap₂ (λ x m. rows_of (n_in P * levels_in P) (generated_entry (basis_in x) m s s' (signed errors) masks)) r.1 g.keyed
+      filling_end f h ∙ ap (λ k. rows_of k (generated_entry (basis_in p) m s s' (signed errors) masks)) g.errored
+      ∙ ap₂ (λ x m. rows_of (n_in P * levels_in P) (generated_entry (basis_in x) m s s' (signed errors) masks)) r.1 em
 
 -- no number applies
 pub record Unrefused (P : LweKeySwitchingParameters) (E : ℕ) (key : Key) (s' masks : List ℕ) (errors : List ℤ) (room : ℕ) : Type 0 where
   pub none : refusal (generate_rows P E key s' masks errors room) ≡ 0
 
 pub generable : {P : LweKeySwitchingParameters} {E : ℕ} {key : Key} {s' masks : List ℕ} {errors : List ℤ} {room : ℕ}
-    → Unrefused P E key s' masks errors room → Generable P s' masks errors room
+    → Unrefused P E key s' masks errors room → Generable P masks errors room
 generable {P} {E} {key} {s'} {masks} {errors} {room} u =
     let no = passed (generate_rows P E key s' masks errors room) u.none in
     let twelve = neither (length_fails (length masks) (n_in P * levels_in P * m_in P)) (length_fails (length errors) (n_in P * levels_in P)) (no 12 tt) in
     record {
       accepted = (judged P _ u.none).accepted;
-      keyed = length_ok _ _ (neither (length_fails (key_length key) (n_in P)) (length_fails (length s') (m_in P)) (no 9 tt)).1;
       fits = length_ok _ _ (no 11 tt);
       masked = length_ok _ _ twelve.0;
       errored = length_ok _ _ twelve.1;

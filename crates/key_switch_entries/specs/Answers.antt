@@ -30,9 +30,8 @@ generated_for P key s' errors masks =
     generated (basis P.basis) (n_in P) (m_in P) (secret_of key) (words s') (signed errors) masks
 
 -- what writing the entries asks
-pub record Generable (P : LweKeySwitchingParameters) (output masks : List ℕ) (errors : List ℤ) (room : ℕ) : Type 0 where
+pub record Generable (P : LweKeySwitchingParameters) (masks : List ℕ) (errors : List ℤ) (room : ℕ) : Type 0 where
   pub accepted : refusal (rows P.basis) ≡ 0
-  pub keyed : length output ≡ m_in P
   pub fits : room ≡ key_words P
   pub masked : length masks ≡ n_in P * levels_in P * m_in P
   pub errored : length errors ≡ n_in P * levels_in P

@@ -103,13 +103,14 @@ pub fn write_entries(
     masks: &[u32],
     errors: &[i32],
 )
-    requires { Generable params output_key.now masks.now errors.now (length out.old) }
+    requires { Generable params masks.now errors.now (length out.old) }
     ensures { out.new ≡ generated_for params (key_of key.entry)
         output_key.now errors.now masks.now }
 {
     let p = prepared(params);
     let modulus = p.modulus;
     let ring = Ring { modulus };
+    let m = params.output_dimension.get();
     let weights = params.basis.scalars();
     let output = LweSecretKeyRef::Encoded(output_key);
     for k in 0..errors.len() {
@@ -117,6 +118,6 @@ pub fn write_entries(
         let j = k % p.level_count;
         let secret = key.residue(i, modulus);
         let plaintext = modulus.reduce_mul(secret, weights[j]);
-        output.encrypt_row(out, masks, errors, k, plaintext, ring);
+        output.encrypt_row(out, masks, m, errors, k, plaintext, ring);
     }
 }

@@ -2,7 +2,7 @@
 ghost use Rattle.std.specs.Prelude.{◌≡◌, ◌+◌, ◌-◌, ◌*◌, ◌<◌, pos, nat_abs, length, get_or};
 ghost use mathlib.Core.List.{zip_with};
 ghost use Rattle.scheme.specs.Numbers.{tabulate};
-ghost use Rattle.scheme.specs.Lwe.{signed as errorsOf, secret_of, key_length, public_key, public_encrypted};
+ghost use Rattle.scheme.specs.Lwe.{signed as errorsOf, secret_of, public_key, public_encrypted};
 ghost use Rattle.scheme.specs.Switch.{Below};
 ghost use Rattle.primus_reduce.specs.Ring.{size_of};
 ghost use Rattle.lwe_secret_key.specs.Key.{key_of};
@@ -12,15 +12,21 @@ use lwe_secret_key::LweSecretKeyRef;
 use primus_reduce::{Factor, Ring};
 use std::cmp::Ordering;
 
-// An encryption of 0 for each of n errors, row i with mask i and error i.
-pub fn write_zeros(out: &mut [u32], key: LweSecretKeyRef, masks: &[u32], errors: &[i32], ring: Ring)
-    requires { let n = length errors.now in
-        (key_length (key_of key) ≡ n) × (length masks.now ≡ n * n) × (length out.old ≡ n * (n + 1)) }
-    ensures { out.new ≡ public_key (size_of ring.modulus) (length errors.now) masks.now
+// n encryptions of 0, row i with mask i and error i.
+pub fn write_zeros(
+    out: &mut [u32],
+    key: LweSecretKeyRef,
+    masks: &[u32],
+    n: usize,
+    errors: &[i32],
+    ring: Ring,
+)
+    requires { (length masks.now ≡ n * n) × (length out.old ≡ n * (n + 1)) }
+    ensures { out.new ≡ public_key (size_of ring.modulus) n masks.now
         (secret_of (key_of key.entry)) (errorsOf errors.now) }
 {
-    for i in 0..errors.len() {
-        key.encrypt_row(out, masks, errors, i, 0, ring);
+    for i in 0..n {
+        key.encrypt_row(out, masks, n, errors, i, 0, ring);
     }
 }
 

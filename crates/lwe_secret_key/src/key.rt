@@ -16,7 +16,7 @@ pub enum LweSecretKeyRef<'a> {
 }
 
 impl<'a> LweSecretKeyRef<'a> {
-    pub(crate) fn len(self) -> usize
+    fn len(self) -> usize
         ensures { result ≡ key_length (key_of self.entry) }
     {
         match self {

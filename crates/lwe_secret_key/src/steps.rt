@@ -1,6 +1,6 @@
 // The innermost steps, for calls that have judged what they are lent: one encryption, one row of a run, one phase.
 ghost use Rattle.std.specs.Prelude.{◌≡◌, [], ◌∷◌, ◌++◌, ◌+◌, ◌-◌, ◌*◌, ◌≤◌, pos, ◌+ℤ◌, length, get_or, take, drop};
-ghost use Rattle.scheme.specs.Lwe.{secret_of, key_length, encrypted, phase_of};
+ghost use Rattle.scheme.specs.Lwe.{secret_of, encrypted, phase_of};
 ghost use Rattle.scheme.specs.Numbers.{residue};
 ghost use Rattle.primus_reduce.specs.Ring.{size_of};
 ghost use Rattle.lwe_secret_key.specs.Key.{key_of};
@@ -65,23 +65,22 @@ impl<'a> LweSecretKeyRef<'a> {
     }
 
     // Row i in its place, with mask i and error i.
+    // Stays: n beside the masks, whose length is that of all rows; a key of another length counts as 0 past its end.
     pub fn encrypt_row(
         self,
         out: &mut [u32],
         masks: &[u32],
+        n: usize,
         errors: &[i32],
         i: usize,
         plaintext: u32,
         ring: Ring,
     )
-        requires { let n = key_length (key_of self) in
-            (i * n + n ≤ length masks.now) × (i * (n + 1) + (n + 1) ≤ length out.old) }
-        ensures { let n = key_length (key_of self.entry) in
-            out.new ≡ replaced out.old (i * (n + 1)) (n + 1)
+        requires { (i * n + n ≤ length masks.now) × (i * (n + 1) + (n + 1) ≤ length out.old) }
+        ensures { out.new ≡ replaced out.old (i * (n + 1)) (n + 1)
             (encrypted (size_of ring.modulus) n (take n (drop (i * n) masks.now))
             (secret_of (key_of self.entry)) (get_or errors.now i (pos 0)) (pos plaintext)) }
     {
-        let n = self.len();
         let from = i * n;
         let at = i * (n + 1);
         let mask = &masks[from..from + n];

@@ -36,9 +36,10 @@ fn write_messages(
         (λ i. pos (encode_word embedding (size_of moduli.modulus) moduli.t (get_or messages.now i 0))) }
 {
     let key = LweSecretKeyRef::Encoded(secret);
+    let n = secret.len();
     for (i, message) in messages.iter().enumerate() {
         let plaintext = moduli.encode_as(embedding, *message);
-        key.encrypt_row(out, masks, errors, i, plaintext, moduli.ring());
+        key.encrypt_row(out, masks, n, errors, i, plaintext, moduli.ring());
     }
 }
 

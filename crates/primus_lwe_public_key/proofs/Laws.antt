@@ -15,15 +15,10 @@ use Rattle.lwe_public_rows.specs.Public.{Public}
 pub lent_ok : (x y n m : ℕ) → (length_fails x n || length_fails y m) ≡ false → x ≡ n
 lent_ok x y n m twelve = length_ok _ _ (neither (length_fails y m) (length_fails x n) twelve).1
 
--- 9, 11 and 12 of a generation: a row for each error
-pub generation_ok : (key room errors masks n : ℕ) → length_fails key n ≡ false → length_fails room (n * (n + 1)) ≡ false
-    → (length_fails errors n || length_fails masks (n * n)) ≡ false → (key ≡ errors) × (masks ≡ errors * errors) × (room ≡ errors * (errors + 1))
-generation_ok key room errors masks n nine eleven twelve =
-    let e = sym (lent_ok errors masks n (n * n) twelve) in (
-      length_ok _ _ nine ∙ e,
-      length_ok _ _ (neither (length_fails masks (n * n)) (length_fails errors n) twelve).0 ∙ ap (λ k. k * k) e,
-      length_ok _ _ eleven ∙ ap (λ k. k * (k + 1)) e,
-    )
+-- 11 and 12 of a generation
+pub generation_ok : (room errors masks n : ℕ) → length_fails room (n * (n + 1)) ≡ false → (length_fails errors n || length_fails masks (n * n)) ≡ false
+    → (masks ≡ n * n) × (room ≡ n * (n + 1))
+generation_ok room errors masks n eleven twelve = (length_ok _ _ (neither (length_fails masks (n * n)) (length_fails errors n) twelve).0, length_ok _ _ eleven)
 
 -- 9, 11, 12 and 15 of an encryption: a row for each coefficient
 pub public_ok : (key : List ℕ) (es rs : List ℤ) (room n E : ℕ) → length_fails (length key) (n * (n + 1)) ≡ false → length_fails room (n + 1) ≡ false

@@ -131,7 +131,8 @@ impl LwePublicKey {
         let ring = Ring {
             modulus: params.modulus,
         };
-        lwe_public_rows::write_zeros(out, secret, masks, errors, ring);
+        let n = params.dimension.get();
+        lwe_public_rows::write_zeros(out, secret, masks, n, errors, ring);
         Ok(())
     }
 

@@ -1,10 +1,9 @@
 use lib.IntN.{pos}
-use lib.ListN.{length}
-use Rattle.scheme.specs.Lwe.{signed, secret_of, key_length}
+use Rattle.scheme.specs.Lwe.{signed, secret_of}
 use Rattle.primus_reduce.specs.Ring.{size_of}
 use Rattle.lwe_secret_key.specs.Key.{key_of}
 use Rattle.lwe_secret_key.proofs.Runs.{Rows}
 use Rattle.lwe_public_rows.proofs.rows.write_zeros.Given as goal
 
 abbrev pub invariant-loop-i : goal.invariant-loop-i
-invariant-loop-i l = Rows (size_of l.ring.modulus) (key_length (key_of l.key)) l.masks (secret_of (key_of l.key)) (signed l.errors) (λ i. pos 0) (length l.errors) l.initial.out l.out l.i
+invariant-loop-i l = Rows (size_of l.ring.modulus) l.n l.masks (secret_of (key_of l.key)) (signed l.errors) (λ i. pos 0) l.n l.initial.out l.out l.i

@@ -1,16 +1,14 @@
-use Rattle.std.proofs.Common.{sym, length}
+use Rattle.std.proofs.Common.{sym}
 use Rattle.scheme.proofs.Order.{passed, done}
 use Rattle.check_order.proofs.Answers.{handed_on, unwritten}
-use Rattle.primus_lwe_public_key.proofs.Laws.{lent_ok, generation_ok}
+use Rattle.primus_lwe_public_key.proofs.Laws.{generation_ok}
 use Rattle.primus_lwe_public_key.proofs.public_key.LwePublicKey.generate.Goals as goal
 
 pub returns-in_err-generate_refusal : goal.returns-in_err-generate_refusal
 returns-in_err-generate_refusal c = rw (handed_on _ c.from_residual.ensures.1) (record { writes = unwritten _ c.in_err-generate_refusal.ensures })
 
 pub write_zeros-requires : goal.write_zeros-requires
-write_zeros-requires c = let no = passed _ (sym c.in_ok-generate_refusal.ensures) in generation_ok _ _ _ _ _ (no 9 tt) (no 11 tt) (no 12 tt)
+write_zeros-requires c = let no = passed _ (sym c.in_ok-generate_refusal.ensures) in rw c.get-n.ensures (generation_ok _ _ _ _ (no 11 tt) (no 12 tt))
 
 pub returns : goal.returns
-returns c =
-    let accepted = sym c.in_ok-generate_refusal.ensures in
-    record { writes = done accepted (rw (lent_ok (length c.args.errors.now) _ _ _ (passed _ accepted 12 tt)) at c.write_zeros.ensures) }
+returns c = record { writes = done (sym c.in_ok-generate_refusal.ensures) (rw c.get-n.ensures at c.write_zeros.ensures) }
