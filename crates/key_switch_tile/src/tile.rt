@@ -67,7 +67,7 @@ impl<'a> Tile<'a> {
     }
 
     // One level of one place: each row loses its own digit times the entry, and its lane moves on.
-    // Inlined, as `place` is: else a Tile is copied at each call, and a batch takes some 2 % more.
+    // Inlined, as `place` is: else a Tile is copied at each call, and a batch takes 1 to 2 % more.
     #[inline(always)]
     fn level<K: Kernel>(
         self,
