@@ -17,7 +17,7 @@ use Rattle.little_endian.specs.Bytes.{word32, word64}
 use Rattle.lwe_tag.specs.Answers.{cap, tally_of, tag_rows}
 use Rattle.saved_head.specs.Head.{head_of}
 use Rattle.saved.specs.Layout.{file_word, file_words, saved_tag}
-use Rattle.pooling_refusals.specs.declared.total.PoolParameters.{PoolParameters}
+use Rattle.lwe_parameters.specs.declared.parameter.LweDecryptionParameters.{LweDecryptionParameters}
 use Rattle.pooling_rows.specs.Rows.{place_tag, sum_number, place_sum, place_fails, tallies_fail, saved_fail, add_tallies, saved_tallies}
 use Rattle.pooling_refusals.specs.Rows.{own_rows, size_rows, file_refusal, begin_refusal, total_refusal}
 use Rattle.pooling.specs.Total.{BeginsSaved, AddsSaved}
@@ -71,7 +71,7 @@ module _ (s u : List ℕ) (len : length s ≡ length u) (before : (k : ℕ) → 
   saved_same : (k : ℕ) → saved_tallies k s ≡ saved_tallies k u
   saved_same k = tabulate_ext k (λ i. (saved_tag s i).tally) (λ i. (saved_tag u i).tally) (λ i h. ap (λ g. g.tally) (tag_same i))
 
-  module _ (p : PoolParameters) (xs ts : List ℕ) where
+  module _ (p : LweDecryptionParameters) (xs ts : List ℕ) where
     -- what a file is judged by beside its words and tallies
     abbrev judged : List ℕ → ℕ → ℕ → List Check
     judged file width places = own_rows p (head_of file) file ++ size_rows p (head_of file) width places

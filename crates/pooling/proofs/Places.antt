@@ -27,7 +27,7 @@ use Rattle.lwe_tag.specs.Answers.{tag_rows}
 use Rattle.primus_lattice.specs.Answers.{add_rows}
 use Rattle.saved_head.specs.Head.{head_of}
 use Rattle.saved.specs.Layout.{file_word, file_words, saved_tag}
-use Rattle.pooling_refusals.specs.declared.total.PoolParameters.{PoolParameters}
+use Rattle.lwe_parameters.specs.declared.parameter.LweDecryptionParameters.{LweDecryptionParameters}
 use Rattle.pooling_rows.specs.Rows.{tag_for, place_tag, sum_number, place_sum, add_tallies, words_from, row_at, replaced_row}
 use Rattle.pooling_refusals.specs.Rows.{total_rows, total_refusal}
 use Rattle.pooling_refusals.proofs.Laws.{in_order}
@@ -71,7 +71,7 @@ filling_rest {f} {w} {c} {d} {now} {i} r =
 abbrev pub sum_at : ℕ → ℕ → List ℕ → List ℕ → ℕ → List ℕ
 sum_at q w s xs i = add_words q (row_at w xs i) (words_from s (i * w) w)
 
-module _ (p : PoolParameters) (s xs ts : List ℕ) (e : total_refusal p s xs ts ≡ 0) where
+module _ (p : LweDecryptionParameters) (s xs ts : List ℕ) (e : total_refusal p s xs ts ≡ 0) where
   abbrev q : ℕ
   q = size_of p.modulus
 

@@ -5,11 +5,11 @@ use borrow.Author.Tests.{ne_eqb}
 use Rattle.check_order.specs.declared.refusal.Refusal.{Refusal}
 use Rattle.check_order.specs.Answer.{number_of}
 use Rattle.check_order.proofs.Answers.{some_number}
-use Rattle.pooling_refusals.specs.declared.total.PoolParameters.{PoolParameters}
+use Rattle.lwe_parameters.specs.declared.parameter.LweDecryptionParameters.{LweDecryptionParameters}
 use Rattle.pooling_refusals.specs.Rows.{begin_refusal, total_refusal}
 use Rattle.pooling.specs.Total.{BeginsSaved, AddsSaved}
 
-module _ {p : PoolParameters} {s xs ts : List ℕ} (e : Refusal) where
+module _ {p : LweDecryptionParameters} {s xs ts : List ℕ} (e : Refusal) where
   pub unadded : number_of e ≡ total_refusal p s xs ts → AddsSaved p s xs ts (number_of e) xs ts
   unadded h =
       let n = ne_eqb (total_refusal p s xs ts) 0 (λ z. some_number e (h ∙ z)) in

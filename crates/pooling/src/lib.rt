@@ -4,5 +4,5 @@
 mod rows;
 mod total;
 
-pub use pooling_refusals::PoolParameters;
+pub use lwe_parameters::LweDecryptionParameters;
 pub use total::{add_saved, begin_saved};

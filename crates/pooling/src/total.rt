@@ -4,12 +4,13 @@ ghost use Rattle.pooling.specs.Total.{BeginsSaved, AddsSaved};
 
 use crate::rows;
 use check_order::Refusal;
-use pooling_refusals::{PoolParameters, begin_refusal, total_refusal};
+use lwe_parameters::LweDecryptionParameters;
+use pooling_refusals::{begin_refusal, total_refusal};
 
 // The ciphertexts of a file as a total, and their tallies, whatever stood there. The E of its head is not read.
 // Refuses by 19, 2, 6, 7, 8, 10, 12, 14, 17.
 pub fn begin_saved(
-    params: PoolParameters,
+    params: LweDecryptionParameters,
     bytes: &[u8],
     total: &mut [u32],
     tallies: &mut [u64],
@@ -26,7 +27,7 @@ pub fn begin_saved(
 // Adds the ciphertexts of a file to a total, and their tallies. The E of its head is not read: a sum takes none.
 // Refuses by 19, 2, 6, 7, 8, 10, 12, 14, 17.
 pub fn add_saved(
-    params: PoolParameters,
+    params: LweDecryptionParameters,
     bytes: &[u8],
     total: &mut [u32],
     tallies: &mut [u64],

@@ -1,13 +1,13 @@
 // The total of the shops' rows, as the box collects it.
 use crate::{PLACES, PLAINTEXT_MODULUS, reasons};
 use check_order::Refusal;
-use pooling::{PoolParameters, add_saved, begin_saved};
+use pooling::{LweDecryptionParameters, add_saved, begin_saved};
 use primus_lattice::LweTag;
 
 // The words of the total, the number of a tag for each place, and how many rows were added.
 #[derive(Drop)]
 pub(crate) struct Pool<'a> {
-    pub(crate) params: PoolParameters,
+    pub(crate) params: LweDecryptionParameters,
     pub(crate) total: &'a mut [u32],
     pub(crate) tallies: [u64; PLACES],
     pub(crate) rows: u32,

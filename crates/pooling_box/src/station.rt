@@ -4,7 +4,7 @@ use crate::{PLACES, PLAINTEXT_MODULUS, reasons};
 use check_order::Refusal;
 use key_switch::key_switch_batch_to;
 use key_switch_parameters::LweKeySwitchingParameters;
-use pooling::PoolParameters;
+use pooling::LweDecryptionParameters;
 use primus_decompose::ApproxSignedBasis;
 use primus_lattice::LweDimension;
 use primus_reduce::Modulus;
@@ -49,7 +49,7 @@ fn serve<'a>(
     room: &'a mut [u32],
 ) -> Option<Sent<'a>> {
     let mut pool = Pool {
-        params: PoolParameters {
+        params: LweDecryptionParameters {
             modulus,
             dimension: params.input_dimension,
             plaintext_modulus: PLAINTEXT_MODULUS,

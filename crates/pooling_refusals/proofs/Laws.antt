@@ -7,7 +7,7 @@ use Rattle.scheme.specs.Checks.{Check, all_of, applies, refusal, words_fail}
 use Rattle.check_order.specs.declared.Sizes.{Sizes}
 use Rattle.check_order.specs.Judged.{JudgesSizes}
 use Rattle.saved_head.specs.declared.head.Head.{Head}
-use Rattle.pooling_refusals.specs.declared.total.PoolParameters.{PoolParameters}
+use Rattle.lwe_parameters.specs.declared.parameter.LweDecryptionParameters.{LweDecryptionParameters}
 use Rattle.pooling_rows.proofs.Laws.{all_next}
 use Rattle.pooling_refusals.specs.Rows.{size_rows, begin_rows, total_rows, file_refusal}
 
@@ -24,7 +24,7 @@ words_next q n f = rw (add-one, all_next (λ x. ltb x q) f n) (fails (all_of (λ
 
 -- ---- the sizes of both calls, and the first refusal
 
-module _ (p : PoolParameters) (h : Head) (s : List ℕ) (j : Sizes) where
+module _ (p : LweDecryptionParameters) (h : Head) (s : List ℕ) (j : Sizes) where
   pub begin_sized : (width places : ℕ) → JudgesSizes (size_rows p h width places) j → JudgesSizes (begin_rows p h s width places) j
   begin_sized width places g = search rules
 

@@ -2,17 +2,18 @@
 use Rattle.std.specs.Prelude.{◌≡◌, Bool, true, false, not, Result, MatchResult, ◌||◌, List, [], ◌∷◌, ◌++◌, ℕ, ◌+◌, ◌*◌, eqb, length}
 use Rattle.scheme.specs.Numbers.{pick}
 use Rattle.scheme.specs.Checks.{Check, row, applies, refusal}
-use Rattle.scheme.specs.Checks.{modulus_fails, dimension_fails, plaintext_fails, small_fails, length_fails, words_fail}
+use Rattle.scheme.specs.Checks.{length_fails, words_fail}
 use Rattle.check_order.specs.declared.refusal.Refusal.{Refusal}
 use Rattle.check_order.specs.Answer.{number_of as number_of_refusal}
-use Rattle.primus_reduce.specs.Ring.{meant, size_of, number_of}
+use Rattle.primus_reduce.specs.Ring.{size_of, number_of}
 use Rattle.primus_reduce.specs.declared.modulus.Modulus.{Modulus}
+use Rattle.lwe_parameters.specs.Answers.{decryption_parameters_rows}
 use Rattle.saved_head.specs.declared.head.Head.{Head}
 use Rattle.saved_head.specs.Kind.{is_ciphertexts}
 use Rattle.saved_head.specs.Head.{head_of, file_rows}
 use Rattle.saved.specs.Layout.{file_words}
 use Rattle.pooling_rows.specs.Rows.{tallies_fail, saved_fail}
-use Rattle.pooling_refusals.specs.declared.total.PoolParameters.{PoolParameters}
+use Rattle.lwe_parameters.specs.declared.parameter.LweDecryptionParameters.{LweDecryptionParameters}
 
 -- 19: a file of another kind, or made with another q or t, is unknown to this total
 abbrev pub other_fails : Head → Modulus → ℕ → Bool
@@ -21,31 +22,28 @@ other_fails h m t =
     || (not (eqb (number_of h.modulus) (number_of m)) || not (eqb h.plaintext_modulus t))
 
 -- a file with the head h, for a total of `width` words and `places` tags: 2 to 12
-abbrev pub size_rows : PoolParameters → Head → ℕ → ℕ → List Check
+abbrev pub size_rows : LweDecryptionParameters → Head → ℕ → ℕ → List Check
 size_rows p h width places =
-    row (modulus_fails (meant p.modulus)) 2
-    ∷ row (dimension_fails p.dimension.0) 6
-    ∷ row (plaintext_fails p.plaintext_modulus) 7
-    ∷ row (small_fails p.plaintext_modulus (meant p.modulus)) 8
-    ∷ row (length_fails h.n p.dimension.0) 10
+    decryption_parameters_rows p
+    ++ row (length_fails h.n p.dimension.0) 10
     ∷ row (length_fails h.words (h.count * (p.dimension.0 + 1))) 10
     ∷ row (length_fails width h.words) 10
     ∷ row (length_fails places h.count) 12
     ∷ []
 
 -- 19: no whole file, or none of this total. The E of its head is not judged: a sum takes words and tallies, and no E
-abbrev pub own_rows : PoolParameters → Head → List ℕ → List Check
+abbrev pub own_rows : LweDecryptionParameters → Head → List ℕ → List Check
 own_rows p h s = row (other_fails h p.modulus p.plaintext_modulus) 19 ∷ file_rows s
 
 -- the head of a whole file of this total, or 19
-abbrev pub OwnHead : PoolParameters → List ℕ → Result Head Refusal → Type 0
+abbrev pub OwnHead : LweDecryptionParameters → List ℕ → Result Head Refusal → Type 0
 OwnHead p s r =
     MatchResult r
     (λ h. (h ≡ head_of s) × (applies (own_rows p (head_of s) s) 19 ≡ false))
     (λ e. (number_of_refusal e ≡ 19) × (applies (own_rows p (head_of s) s) 19 ≡ true))
 
 -- a file s with the head h, as the beginning of a total
-abbrev pub begin_rows : PoolParameters → Head → List ℕ → ℕ → ℕ → List Check
+abbrev pub begin_rows : LweDecryptionParameters → Head → List ℕ → ℕ → ℕ → List Check
 begin_rows p h s width places =
     own_rows p h s
     ++ size_rows p h width places
@@ -54,7 +52,7 @@ begin_rows p h s width places =
     ∷ []
 
 -- a file s with the head h, added to the words xs and the tags ts
-abbrev pub total_rows : PoolParameters → Head → List ℕ → List ℕ → List ℕ → List Check
+abbrev pub total_rows : LweDecryptionParameters → Head → List ℕ → List ℕ → List ℕ → List Check
 total_rows p h s xs ts =
     own_rows p h s
     ++ size_rows p h (length xs) (length ts)
@@ -67,8 +65,8 @@ total_rows p h s xs ts =
 unfoldable pub file_refusal : List Check → ℕ
 file_refusal rows = pick (applies rows 19) 19 (refusal rows)
 
-abbrev pub begin_refusal : PoolParameters → List ℕ → ℕ → ℕ → ℕ
+abbrev pub begin_refusal : LweDecryptionParameters → List ℕ → ℕ → ℕ → ℕ
 begin_refusal p s width places = file_refusal (begin_rows p (head_of s) s width places)
 
-abbrev pub total_refusal : PoolParameters → List ℕ → List ℕ → List ℕ → ℕ
+abbrev pub total_refusal : LweDecryptionParameters → List ℕ → List ℕ → List ℕ → ℕ
 total_refusal p s xs ts = file_refusal (total_rows p (head_of s) s xs ts)

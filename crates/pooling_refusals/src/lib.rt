@@ -3,4 +3,4 @@
 
 mod total;
 
-pub use total::{PoolParameters, begin_refusal, total_refusal};
+pub use total::{begin_refusal, total_refusal};

@@ -8,17 +8,10 @@ ghost use Rattle.saved.specs.Layout.{file_words};
 ghost use Rattle.pooling_refusals.specs.Rows.{other_fails, OwnHead, size_rows, begin_rows, total_rows, begin_refusal, total_refusal};
 
 use check_order::{Refusal, Sizes, Values};
+use lwe_parameters::LweDecryptionParameters;
 use primus_lattice::LweDimension;
 use primus_reduce::Modulus;
 use saved_head::Head;
-
-// What every file of a total is made with: q, n and t.
-#[derive(Clone, Copy)]
-pub struct PoolParameters {
-    pub modulus: Modulus,
-    pub dimension: LweDimension,
-    pub plaintext_modulus: u32,
-}
 
 // 19: no ciphertexts of one message each, or made with another q or t.
 // Stays: numbers compared: a file's modulus is a number, and there `Explicit(0)` and native are the same one.
@@ -32,7 +25,7 @@ fn is_other(h: Head, modulus: Modulus, plaintext_modulus: u32) -> bool
 
 // The head of a whole file of this total; others are refused by 19.
 #[tactic(auto, unfolding(check_order::specs::Answer::number_of))]
-fn own_head(params: PoolParameters, bytes: &[u8]) -> Result<Head, Refusal>
+fn own_head(params: LweDecryptionParameters, bytes: &[u8]) -> Result<Head, Refusal>
     ensures { OwnHead params bytes.now result }
 {
     let h = saved_head::head_of(bytes);
@@ -75,24 +68,17 @@ fn words_refused(q: Modulus, total: &[u32], bytes: &[u8], h: Head) -> bool
 }
 
 // 2 to 12, of a total of `len` words and `places` tallies.
-fn sizes(params: PoolParameters, h: Head, len: usize, places: usize) -> Sizes
+fn sizes(params: LweDecryptionParameters, h: Head, len: usize, places: usize) -> Sizes
     ensures { JudgesSizes (size_rows params h len places) result }
 {
-    let modulus = params.modulus;
-    let dimension = params.dimension;
-    let t = params.plaintext_modulus;
-    let mut s = Sizes::NONE;
-    s.modulus = checks::modulus_refused(modulus);
-    s.dimension = dimension.refused();
-    s.plaintext = checks::plaintext_refused(t);
-    s.small = checks::small_refused(t, modulus);
-    s.input = rows_differ(dimension, h, len);
+    let mut s = params.sizes();
+    s.input = rows_differ(params.dimension, h, len);
     s.lent = checks::length_differs(places, h.count as usize);
     s
 }
 
 fn begin_judged(
-    params: PoolParameters,
+    params: LweDecryptionParameters,
     h: Head,
     bytes: &[u8],
     len: usize,
@@ -108,7 +94,7 @@ fn begin_judged(
 }
 
 fn judged(
-    params: PoolParameters,
+    params: LweDecryptionParameters,
     h: Head,
     bytes: &[u8],
     total: &[u32],
@@ -126,7 +112,7 @@ fn judged(
 // The first refusal that applies. Only a whole file of this total goes on past 19: no word is walked that is claimed and not
 // there.
 pub fn begin_refusal(
-    params: PoolParameters,
+    params: LweDecryptionParameters,
     bytes: &[u8],
     len: usize,
     places: usize,
@@ -139,7 +125,7 @@ pub fn begin_refusal(
 
 // What refuses a file that is added to a total.
 pub fn total_refusal(
-    params: PoolParameters,
+    params: LweDecryptionParameters,
     bytes: &[u8],
     total: &[u32],
     tallies: &[u64],
