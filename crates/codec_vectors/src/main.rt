@@ -48,25 +48,11 @@ enum Next {
     Broken,
 }
 
-// The N bytes of a record.
-fn record<const N: usize>(input: &mut impl Read) -> Option<[u8; N]> {
-    let mut r = [0u8; N];
-    if programs::read_full(input, &mut r) == N {
-        Some(r)
-    } else {
-        None
-    }
-}
-
 fn turn(input: &mut impl Read) -> Next {
-    let mut tag = [0u8; 1];
-    if programs::read_full(input, &mut tag) < 1 {
-        return Next::Broken;
-    }
-    match tag[0] {
-        0 => Next::End,
-        1 => Next::Record(record::<37>(input).is_some_and(|r| values::right(&r))),
-        2 => Next::Record(record::<86>(input).is_some_and(|r| slices::right(&r))),
+    match programs::record::<1>(input).map(|tag| tag[0]) {
+        Some(0) => Next::End,
+        Some(1) => Next::Record(programs::record::<37>(input).is_some_and(|r| values::right(&r))),
+        Some(2) => Next::Record(programs::record::<86>(input).is_some_and(|r| slices::right(&r))),
         _ => Next::Broken,
     }
 }
@@ -84,19 +70,18 @@ fn all(input: &mut impl Read, before: Score) -> Score {
 }
 
 // The records of a file, counted on; a file that cannot be opened is one that differs.
-fn file(rt: &(impl Files + Eprint), path: &[u8], s: Score) -> Score {
-    match programs::open(rt, path) {
+fn file(rt: &(impl Files + Eprint), name: &str, s: Score) -> Score {
+    match programs::open_named(rt, name) {
         Some(mut file) => all(&mut file, s),
         None => s.counted(false),
     }
 }
 
 fn main(rt: HostRuntime) {
-    let made = file(&rt, b"codec.bin", Score::NONE);
-    let s = file(&rt, b"oracle.bin", made);
-    programs::say(&rt, b"compared ", s.compared as u64);
-    programs::say(&rt, b"wrong ", s.wrong as u64);
+    let made = file(&rt, "codec.bin", Score::NONE);
+    let s = file(&rt, "oracle.bin", made);
+    let _ = println!(&rt; "compared {}\nwrong {}", s.compared, s.wrong);
     if let Some(first) = s.first {
-        programs::say(&rt, b"first wrong ", first as u64);
+        let _ = println!(&rt; "first wrong {first}");
     }
 }

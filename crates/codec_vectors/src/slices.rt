@@ -1,37 +1,63 @@
 // A slice record: one slice call, its answer, and all words of its buffer afterwards.
 use crate::bytes;
 use check_order::Refusal;
-use primus_encoding::{MessageDecoder, PlaintextEmbedding, RoundedCodec};
+use primus_encoding::{MessageDecoder, RoundedCodec};
 
-fn embedding(centered: u32) -> PlaintextEmbedding {
-    if centered == 0 {
-        PlaintextEmbedding::Unsigned
-    } else {
-        PlaintextEmbedding::Centered
+// The calls, in the order of the numbers from 1 that the file gives them: those of the codec, then those of the decoder.
+#[derive(Clone, Copy)]
+enum Call {
+    EncodeTo,
+    EncodeAssign,
+    AddEncodeAssign,
+    DecodeTo,
+    DecodeAssign,
+    DecoderTo,
+    DecoderAssign,
+}
+
+impl TryFrom<u32> for Call {
+    type Error = u32;
+
+    // Another number is no call.
+    fn try_from(number: u32) -> Result<Call, u32> {
+        Ok(match number {
+            1 => Call::EncodeTo,
+            2 => Call::EncodeAssign,
+            3 => Call::AddEncodeAssign,
+            4 => Call::DecodeTo,
+            5 => Call::DecodeAssign,
+            6 => Call::DecoderTo,
+            7 => Call::DecoderAssign,
+            other => return Err(other),
+        })
     }
 }
 
-fn call(codec: RoundedCodec, r: &[u8], lent: &[u32], buffer: &mut [u32]) -> Result<(), Refusal> {
-    let e = embedding(little_endian::u8_at(r, 10));
-    match little_endian::u8_at(r, 9) {
-        1 => codec.encode_slice_to(lent, buffer, e),
-        2 => codec.encode_slice_assign(buffer, e),
-        0 | 3 => codec.add_encode_slice_assign(buffer, lent, e),
-        4 => codec.decode_slice_to(lent, buffer),
-        5 => codec.decode_slice_assign(buffer),
-        6 => MessageDecoder::from(codec).decode_slice_to(lent, buffer),
-        _ => MessageDecoder::from(codec).decode_slice_assign(buffer),
+fn called(
+    call: Call,
+    codec: RoundedCodec,
+    r: &[u8],
+    lent: &[u32],
+    buffer: &mut [u32],
+) -> Result<(), Refusal> {
+    let e = programs::embedding_at(r, 10);
+    match call {
+        Call::EncodeTo => codec.encode_slice_to(lent, buffer, e),
+        Call::EncodeAssign => codec.encode_slice_assign(buffer, e),
+        Call::AddEncodeAssign => codec.add_encode_slice_assign(buffer, lent, e),
+        Call::DecodeTo => codec.decode_slice_to(lent, buffer),
+        Call::DecodeAssign => codec.decode_slice_assign(buffer),
+        Call::DecoderTo => MessageDecoder::from(codec).decode_slice_to(lent, buffer),
+        Call::DecoderAssign => MessageDecoder::from(codec).decode_slice_assign(buffer),
     }
 }
 
 // The number of what the call answers on the first words of what is lent and of the buffer, as many as the record says.
 fn answer(codec: RoundedCodec, r: &[u8], lent: &[u32], buffer: &mut [u32]) -> Option<u32> {
+    let call = Call::try_from(little_endian::u8_at(r, 9)).ok()?;
     let lent = lent.get(..little_endian::u8_at(r, 11) as usize)?;
     let buffer = buffer.get_mut(..little_endian::u8_at(r, 12) as usize)?;
-    match call(codec, r, lent, buffer) {
-        Ok(()) => Some(0),
-        Err(refusal) => Some(u32::from(refusal)),
-    }
+    Some(c_numbers::code(called(call, codec, r, lent, buffer)))
 }
 
 pub(crate) fn right(r: &[u8]) -> bool {

@@ -1,38 +1,24 @@
-// The words and the signed numbers of a record.
+// The words of a record, four bytes each. A word that the record lacks is not the same as any.
 
-// A signed number of 32 bits, by its 64 bits.
-pub(crate) fn i32_bits_at(r: &[u8], i: usize) -> u64 {
-    let low = little_endian::u32_at(r, i) as u64;
-    if low < 0x8000_0000 {
-        return low;
-    }
-    0xffff_ffff_0000_0000 + low
-}
-
-// A signed number by its 64 bits.
-pub(crate) fn bits(z: i64) -> u64 {
-    z.cast_unsigned()
+// There are `count` of them, or more.
+pub(crate) fn has(r: &[u8], count: usize) -> bool {
+    count <= r.len() / 4
 }
 
 // The words are the numbers of the record.
 pub(crate) fn run_is(out: &[u32], r: &[u8]) -> bool {
-    let mut p = 0;
-    let mut right = true;
-    for word in out {
-        right &= *word == little_endian::u32_at(r, p);
-        p = p.wrapping_add(4);
-    }
-    right
+    has(r, out.len())
+        && out
+            .iter()
+            .zip(r.chunks_exact(4))
+            .all(|(word, bytes)| *word == little_endian::u32_at(bytes, 0))
 }
 
 // The first and the last word of each run of three are the numbers of the record.
 pub(crate) fn ends_are(out: &[u32], r: &[u8]) -> bool {
-    let mut p = 0;
-    let mut right = true;
-    for run in out.chunks_exact(3) {
-        let number = little_endian::u32_at(r, p);
-        right &= matches!(run, [first, _, last] if *first == number && *last == number);
-        p = p.wrapping_add(4);
-    }
-    right
+    has(r, out.len() / 3)
+        && out.chunks_exact(3).zip(r.chunks_exact(4)).all(|(run, bytes)| {
+            let number = little_endian::u32_at(bytes, 0);
+            matches!(run, [first, _, last] if *first == number && *last == number)
+        })
 }

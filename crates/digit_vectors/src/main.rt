@@ -31,40 +31,34 @@ impl State {
     }
 }
 
-// A record of N bytes, and whether all of it is there.
-fn record<const N: usize>(input: &mut impl Read) -> ([u8; N], bool) {
-    let mut r = [0; N];
-    let n = programs::read_full(input, &mut r);
-    (r, n == N)
-}
-
 fn on_basis(input: &mut impl Read, s: &mut State) -> bool {
-    let (r, whole) = record::<94>(input);
-    let right = basis::compare(&r, &mut s.held);
-    s.count_basis(right && whole);
-    whole
+    let record = programs::record::<94>(input);
+    let right = record.is_some_and(|r| basis::compare(&r, &mut s.held));
+    s.count_basis(right);
+    record.is_some()
 }
 
 fn on_word(input: &mut impl Read, s: &mut State) -> bool {
-    let (r, whole) = record::<85>(input);
-    s.count_word(word::compare(s.held, &Expected::new(&r)) && whole);
-    whole
+    let record = programs::record::<85>(input);
+    let right = record.is_some_and(|r| word::compare(s.held, &Expected::new(&r)));
+    s.count_word(right);
+    record.is_some()
 }
 
 fn on_short_word(input: &mut impl Read, s: &mut State) -> bool {
-    let (r, whole) = record::<28>(input);
-    s.count_word(word::compare(s.held, &Expected::short(&r)) && whole);
-    whole
+    let record = programs::record::<28>(input);
+    let right = record.is_some_and(|r| word::compare(s.held, &Expected::short(&r)));
+    s.count_word(right);
+    record.is_some()
 }
 
 // One record, and whether there may be more. The last is a zero byte; anything else is counted as wrong.
 fn one(input: &mut impl Read, s: &mut State) -> bool {
-    let (tag, whole) = record::<1>(input);
-    match (whole, tag[0]) {
-        (true, 1) => on_basis(input, s),
-        (true, 2) => on_word(input, s),
-        (true, 3) => on_short_word(input, s),
-        (true, 0) => false,
+    match programs::record::<1>(input).map(|tag| tag[0]) {
+        Some(1) => on_basis(input, s),
+        Some(2) => on_word(input, s),
+        Some(3) => on_short_word(input, s),
+        Some(0) => false,
         _ => {
             s.count_word(false);
             false
@@ -81,8 +75,8 @@ fn all(input: &mut impl Read, s: &mut State) {
 }
 
 // The records of a file, counted on; a file that cannot be opened is one that is wrong.
-fn file(rt: &(impl Files + Eprint), path: &[u8], s: &mut State) {
-    match programs::open(rt, path) {
+fn file(rt: &(impl Files + Eprint), name: &str, s: &mut State) {
+    match programs::open_named(rt, name) {
         Some(mut file) => all(&mut file, s),
         None => s.count_word(false),
     }
@@ -95,9 +89,7 @@ fn main(rt: HostRuntime) {
         words: 0,
         wrong: 0,
     };
-    file(&rt, b"digits.bin", &mut s);
-    file(&rt, b"oracle.bin", &mut s);
-    programs::say(&rt, b"bases ", s.bases);
-    programs::say(&rt, b"words ", s.words);
-    programs::say(&rt, b"wrong ", s.wrong);
+    file(&rt, "digits.bin", &mut s);
+    file(&rt, "oracle.bin", &mut s);
+    let _ = println!(&rt; "bases {}\nwords {}\nwrong {}", s.bases, s.words, s.wrong);
 }

@@ -8,8 +8,8 @@ use primus_decompose::{ApproxSignedBasis, Refusal, SignedDecomposer};
 pub struct Expected<'a> {
     word: u32,
     refusal: u32,
-    reading: u64,
-    error: u64,
+    reading: i64,
+    error: i64,
     digits: &'a [u8],
 }
 
@@ -18,8 +18,8 @@ impl<'a> Expected<'a> {
         Expected {
             word: little_endian::u32_at(r, 0),
             refusal: little_endian::u8_at(r, 4),
-            reading: little_endian::u64_at(r, 5),
-            error: little_endian::u64_at(r, 13),
+            reading: little_endian::u64_at(r, 5).cast_signed(),
+            error: little_endian::u64_at(r, 13).cast_signed(),
             digits: r.get(21..).unwrap_or(&[]),
         }
     }
@@ -29,8 +29,8 @@ impl<'a> Expected<'a> {
         Expected {
             word: little_endian::u32_at(r, 0),
             refusal: 0,
-            reading: bytes::i32_bits_at(r, 4),
-            error: bytes::i32_bits_at(r, 8),
+            reading: i64::from(little_endian::u32_at(r, 4).cast_signed()),
+            error: i64::from(little_endian::u32_at(r, 8).cast_signed()),
             digits: r.get(12..).unwrap_or(&[]),
         }
     }
@@ -41,22 +41,18 @@ impl<'a> Expected<'a> {
 
     fn reading_is(&self, b: ApproxSignedBasis) -> bool {
         match b.reading(self.word) {
-            Ok(r) => self.refusal == 0
-                && bytes::bits(r.reading) == self.reading
-                && bytes::bits(r.error) == self.error,
+            Ok(r) => self.refusal == 0 && r.reading == self.reading && r.error == self.error,
             Err(refusal) => self.refuses_by(refusal),
         }
     }
 
     fn steps_are(&self, start: SignedDecomposer, count: usize) -> bool {
-        let mut right = true;
+        let mut right = bytes::has(self.digits, count);
         let mut d = start;
-        let mut p = 0;
-        for _level in 0..count {
+        for bytes in self.digits.chunks_exact(4).take(count) {
             let s = d.step();
-            right &= s.digit == little_endian::u32_at(self.digits, p);
+            right &= s.digit == little_endian::u32_at(bytes, 0);
             d = s.next;
-            p = p.wrapping_add(4);
         }
         right
     }

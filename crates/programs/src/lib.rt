@@ -1,28 +1,13 @@
-// What the programs share: a file read whole, a modulus of a record, lines written, words compared.
+// What the programs share: a file read whole, a record and what stands in it, words compared.
 #![tactic(auto)]
 
 ghost use Rattle.std.specs.Prelude.{◌≤◌, IfSome, length};
 
+use primus_encoding::PlaintextEmbedding;
 use primus_reduce::Modulus;
 use std::fs;
 use std::io::Read;
 use std::rt::Files;
-
-// Text as it stands; a write that fails is passed over.
-pub fn write(rt: &impl Print, text: &[u8]) {
-    let _ = rt.write_all(text);
-}
-
-pub fn print(rt: &impl Print, label: &[u8], number: u64) {
-    write(rt, label);
-    let _ = rt.print(number);
-}
-
-// A line.
-pub fn say(rt: &impl Print, label: &[u8], number: u64) {
-    print(rt, label, number);
-    write(rt, b"\n");
-}
 
 // A file to read; where it cannot be opened, standard error says why.
 // Stays: no clause, since `fs::open` has none: which file a name opens, and when it opens, no contract can say.
@@ -34,14 +19,6 @@ pub fn open_named<R: Files + Eprint>(rt: &R, name: &str) -> Option<R::File> {
             None
         }
     }
-}
-
-// The same of a name in bytes.
-pub fn open<R: Files + Eprint>(rt: &R, path: &[u8]) -> Option<R::File> {
-    let Ok(name) = str::from_utf8(path) else {
-        return None;
-    };
-    open_named(rt, name)
 }
 
 // One read; one that fails gives no byte.
@@ -67,6 +44,12 @@ pub fn read_full(input: &mut impl Read, bytes: &mut [u8]) -> usize
     done
 }
 
+// The N bytes of a record; none where the input ends before.
+pub fn record<const N: usize>(input: &mut impl Read) -> Option<[u8; N]> {
+    let mut bytes = [0; N];
+    (read_full(input, &mut bytes) == N).then_some(bytes)
+}
+
 // The first bytes of a file, as many as there is room for; none where it cannot be opened.
 pub fn read_file<'a>(rt: &(impl Files + Eprint), name: &str, room: &'a mut [u8]) -> Option<&'a [u8]>
     ensures { IfSome result (λ bytes. length bytes.now ≤ length room.old) }
@@ -82,6 +65,14 @@ pub fn modulus_at(record: &[u8], at: usize) -> Modulus {
         return Modulus::Native;
     }
     Modulus::Explicit(little_endian::u32_at(record, at.wrapping_add(1)))
+}
+
+// An embedding of a record: a byte that is 0 for Unsigned.
+pub fn embedding_at(record: &[u8], at: usize) -> PlaintextEmbedding {
+    match little_endian::u8_at(record, at) {
+        0 => PlaintextEmbedding::Unsigned,
+        _ => PlaintextEmbedding::Centered,
+    }
 }
 
 // The first `count` words are the same; there are that many in both.
