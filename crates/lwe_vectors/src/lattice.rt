@@ -18,7 +18,7 @@ pub(crate) fn dimension(h: Head) -> Said {
 fn encryption_parameters_are(h: Head) -> Result<bool, Refusal> {
     let dimension = LweDimension::given(h.n);
     let p = LweEncryptionParameters::try_new(dimension, h.modulus, h.error_limit)?;
-    Ok(p.dimension.get() == h.n && p.modulus == h.modulus && p.error_limit == h.error_limit)
+    Ok(p == h.encryption_parameters())
 }
 
 pub(crate) fn encryption_parameters(h: Head) -> Said {
@@ -28,12 +28,7 @@ pub(crate) fn encryption_parameters(h: Head) -> Said {
 fn parameters_are(h: Head) -> Result<bool, Refusal> {
     let dimension = LweDimension::given(h.n);
     let p = LweParameters::try_new(dimension, h.modulus, h.t, h.error_limit)?;
-    Ok(
-        p.dimension.get() == h.n
-            && p.modulus == h.modulus
-            && p.plaintext_modulus == h.t
-            && p.error_limit == h.error_limit,
-    )
+    Ok(p == h.parameters())
 }
 
 pub(crate) fn parameters(h: Head) -> Said {

@@ -19,6 +19,7 @@ use std::io::{BufReader, ErrorKind, Read};
 use std::rt::Files;
 
 // The call of a record, which writes to `out`.
+// Stays: a match of one line a kind: each number in the file stands for a call of its own.
 fn call(kind: Kind, r: &Record, out: &mut [u32]) -> Said {
     match kind {
         Kind::Dimension => lattice::dimension(r.head),
@@ -122,10 +123,10 @@ fn all(
 fn file(
     rt: &(impl Files + Print + Eprint),
     alloc: Global,
-    path: &[u8],
+    name: &str,
     counts: &mut Counts,
 ) -> io::Result<bool> {
-    match programs::open(rt, path) {
+    match programs::open_named(rt, name) {
         Some(file) => all(rt, alloc, &mut BufReader::new(alloc, file)?, counts),
         None => Ok(false),
     }
@@ -134,9 +135,9 @@ fn file(
 fn main(rt: HostRuntime) -> io::Result<()> {
     let alloc = rt.alloc();
     let mut counts = [0; KINDS + 1];
-    let encryption = file(&rt, alloc, b"lwe.bin", &mut counts)?;
-    let switching = file(&rt, alloc, b"switch.bin", &mut counts)?;
-    let rust = file(&rt, alloc, b"oracle.bin", &mut counts)?;
+    let encryption = file(&rt, alloc, "lwe.bin", &mut counts)?;
+    let switching = file(&rt, alloc, "switch.bin", &mut counts)?;
+    let rust = file(&rt, alloc, "oracle.bin", &mut counts)?;
     for (kind, count) in counts.iter().enumerate().skip(1) {
         let _ = println!(rt; "kind {kind}: {count}");
     }

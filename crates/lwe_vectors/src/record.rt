@@ -61,13 +61,6 @@ pub(crate) struct Record {
     pub(crate) after: Vec<u32>,
 }
 
-fn embedding(number: u32) -> PlaintextEmbedding {
-    match number {
-        0 => PlaintextEmbedding::Unsigned,
-        _ => PlaintextEmbedding::Centered,
-    }
-}
-
 // Two bytes.
 fn length(bytes: &[u8], i: usize) -> usize {
     (little_endian::u32_at(bytes, i) % 65536) as usize
@@ -81,7 +74,7 @@ impl Head {
             n: little_endian::u64_at(bytes, 6) as usize,
             t: little_endian::u32_at(bytes, 14),
             error_limit: little_endian::u32_at(bytes, 18),
-            embedding: embedding(little_endian::u8_at(bytes, 22)),
+            embedding: programs::embedding_at(bytes, 22),
             refusal: little_endian::u8_at(bytes, 23),
             value: little_endian::u32_at(bytes, 24),
             answer: little_endian::u32_at(bytes, 28),
@@ -126,8 +119,8 @@ impl Head {
     }
 
     pub(crate) fn read(input: &mut impl Read) -> Option<Head> {
-        let mut bytes = [0; HEAD];
-        (programs::read_full(input, &mut bytes) == HEAD).then_some(Head::of(&bytes))
+        let bytes = programs::record::<HEAD>(input)?;
+        Some(Head::of(&bytes))
     }
 
     // There is room for every operand, and for the whole record.

@@ -27,7 +27,7 @@ pub(crate) fn holds(answer: Result<bool, Refusal>) -> Said {
 // A call that writes ciphertexts, all with this tag.
 pub(crate) fn written(answer: Result<LweTag, Refusal>, expected: LweTag) -> Said {
     match answer {
-        Ok(tag) => (u64::from(tag) == u64::from(expected)).then_some(Ok(0)),
+        Ok(tag) => (tag == expected).then_some(Ok(0)),
         Err(refusal) => Some(Err(refusal)),
     }
 }
