@@ -45,6 +45,7 @@ impl LweKeySwitchingKey {
     }
 
     // Entry (i, j), as that part of the lent key; an empty part where `entry` gives no place.
+    // Stays: no Result: it could not fail before, and `entry` says why there is no part.
     pub fn entry_words(params: LweKeySwitchingParameters, key: &[u32], i: usize, j: usize) -> &[u32]
         ensures { result.now ≡ entry_part params key.now i j }
     {

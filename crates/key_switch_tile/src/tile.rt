@@ -34,6 +34,7 @@ impl<'a> Tile<'a> {
     ghost use Rattle.key_switch_tile.specs.Tile.{LevelRoom, Leveled};
 
     // The lanes of mask place i: the decomposer of each row's word. None is kept from the place before.
+    // Stays: fixed memory, of which the lanes past the rows are never read, and a loop over the rows alone.
     pub fn lanes(self, i: usize) -> [SignedDecomposer; TILE]
         requires { i < self.shape.n }
         ensures { LanesOf self.entry i result }

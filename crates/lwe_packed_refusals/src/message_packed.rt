@@ -8,7 +8,7 @@ use crate::packed;
 use check_order::{Refusal, Values};
 use lwe_parameters::LweParameters;
 
-// What refuses packed messages.
+// What refuses packed messages. Stays beside that of plaintexts: other parameters, and messages judged after the errors.
 pub fn packed_message_refusal(
     params: LweParameters,
     secret: &[u32],

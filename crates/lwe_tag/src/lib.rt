@@ -99,6 +99,7 @@ pub fn tags_refused(x: LweTag, y: LweTag) -> bool
 }
 
 // The tag of a sum; no tally where it exceeds 2^32, which a sum of ciphertexts refuses by 17.
+// Stays beside `tags_refused`: 17 is judged with the other values, before anything is written.
 pub fn tags_sum(x: LweTag, y: LweTag) -> LweTag
     ensures { result ≡ sum_tag x y }
 {
@@ -131,6 +132,7 @@ fn marked(q: u64, t: u32, tally: Option<u64>) -> bool
     tally.is_some_and(|a| below(q, t, a))
 }
 
+// Stays: 2, 7 and 8 in three lines: the codec, which judges them too, is no crate below a tag.
 fn mark_refusal(tag: LweTag, modulus: Modulus, t: u32) -> Result<(), Refusal>
     ensures { code_of result ≡ refusal (mark_rows tag modulus t) }
 {

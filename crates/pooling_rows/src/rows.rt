@@ -12,6 +12,7 @@ use primus_lattice::{LweDimension, add_assign};
 use primus_reduce::Modulus;
 
 // The words of a file from word `at` on, as many as the buffer holds.
+// Stays beside `saved::words_to`: a total that begins is promised the words of a file, `file_words`.
 #[tactic(auto, using(saved::proofs::Laws::tabled))]
 fn words_from(out: &mut [u32], bytes: &[u8], at: usize)
     requires { at + length out.old < 2 ^ 64 }

@@ -17,6 +17,7 @@ pub fn tallies_refused(tallies: &[u64], bytes: &[u8]) -> bool
 }
 
 // 17, one of the first `places` tallies of the file.
+// Stays: a loop: with `any` over the range the proof did not close.
 #[tactic(auto, using(crate::proofs::Laws::somewhere_none, crate::proofs::Laws::somewhere_next), unfolding(crate::specs::Rows::saved_fail))]
 pub fn saved_refused(places: usize, bytes: &[u8]) -> bool
     ensures { result ≡ saved_fail places bytes.now }

@@ -1,4 +1,5 @@
 // LWE ciphertexts over words of 32 bits: the dimension, sums, and the tag beside the words.
+// Stays: each lent buffer is a parameter of its own, as in the Rust and in C; what refuses a call takes them as they come.
 #![tactic(auto)]
 
 mod dimension;

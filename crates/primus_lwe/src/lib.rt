@@ -1,4 +1,5 @@
 // LWE encryption over words of 32 bits. Random masks and errors are lent.
+// Stays: each lent buffer is a parameter of its own, as in the Rust and in C; what refuses a call takes them as they come.
 #![tactic(auto)]
 
 mod secret_key;

@@ -89,6 +89,7 @@ fn public_refusal(
     v.judge()
 }
 
+// Stays beside that of a plaintext: other parameters, and a message judged after the errors.
 fn public_message_refusal(
     params: LweParameters,
     key: &[u32],

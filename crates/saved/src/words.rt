@@ -31,7 +31,7 @@ pub fn signed_at(bytes: &[u8], i: usize) -> i32
     word_at(bytes, i).cast_signed()
 }
 
-// Eight bytes at base + 8i, as for words.
+// Eight bytes at base + 8i, as for words. Stays: another width, and a base that the head gives.
 #[tactic(auto, using(crate::proofs::Laws::number_capped))]
 fn number_at(bytes: &[u8], base: usize, i: usize) -> u64
     ensures { result ≡ word64 bytes.now (base + 8 * i) }

@@ -16,6 +16,7 @@ use std::rt::Files;
 pub const ROOM: usize = 65537;
 
 // What stands under a name: nothing that can be opened, bytes that are no whole file, or a whole one.
+// Stays: three answers of one kind, no Result: a whole file of another kind is refused by 19 too.
 #[derive(Clone, Copy)]
 pub enum Stored {
     Missing,
@@ -25,6 +26,7 @@ pub enum Stored {
 
 // A file's refusal and why, its head, the tag of its first ciphertext, the checksum of its bytes, its words, and the room that they
 // stand in, with what follows them in the file and then zeros.
+// Stays: no Result: of a refused file the head, the tag and the checksum are told too.
 #[derive(Clone, Copy)]
 pub struct Loaded<'a, W> {
     pub refusal: Result<(), Refusal>,
