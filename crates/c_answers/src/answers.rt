@@ -54,6 +54,7 @@ pub fn word_number(answer: Result<u32, Refusal>) -> u64
     }
 }
 
+// Stays beside `word_number`: over `u64: From<T>` its promise would be a relation, where the exports name a number.
 pub fn mark_number(answer: Result<bool, Refusal>) -> u64
     ensures { result ≡ mark_number answer }
 {
