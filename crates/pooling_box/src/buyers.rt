@@ -36,7 +36,7 @@ fn with_secret(h: Head, secret: &[u32], sent: &[u32]) -> Result<[u32; PLACES], R
 
 // Not a secret of words, or of another modulus than the total: it would open to another total, with no refusal.
 fn is_other(h: Head, modulus: Modulus) -> bool {
-    h.kind != Kind::SecretKey || u32::from(h.modulus) != u32::from(modulus)
+    h.kind != Kind::SecretKey || h.modulus != modulus
 }
 
 pub(crate) fn open(rt: &(impl Files + Print + Eprint), sent: Sent) {

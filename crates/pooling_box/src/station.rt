@@ -74,12 +74,10 @@ fn serve<'a>(
     })
 }
 
-// The words of four ciphertexts. A dimension above 2,048 is refused before.
-fn width_of(dimension: usize) -> usize {
-    if 2048 < dimension {
-        return 0;
-    }
-    PLACES * (dimension + 1)
+// The words of four ciphertexts, where there is room for them.
+fn four_of(dimension: LweDimension, room: &mut [u32]) -> Option<&mut [u32]> {
+    let width = dimension.get().checked_add(1)?.checked_mul(PLACES)?;
+    room.get_mut(..width)
 }
 
 fn parameters(h: Head) -> Result<LweKeySwitchingParameters, Refusal> {
@@ -93,31 +91,25 @@ fn parameters(h: Head) -> Result<LweKeySwitchingParameters, Refusal> {
     )
 }
 
-// Serves with a whole file of a switching key. A total of four ciphertexts of n + 1 words is switched to four of m + 1. No whole
-// file is larger than the rooms.
+// Serves with a whole file of a switching key. A total of four ciphertexts of n + 1 words is switched to four of m + 1. No
+// judged dimension needs more than the rooms have.
 fn with_file<'a>(
     rt: &(impl Files + Print + Eprint),
     h: Head,
     key: &[u32],
     room: &'a mut [u32],
 ) -> Option<Sent<'a>> {
-    let mut total = [0u32; 8196];
-    let width = width_of(h.n).min(total.len());
-    let end = width_of(h.m).min(room.len());
-    match parameters(h) {
-        Ok(params) => serve(
-            rt,
-            params,
-            h.modulus,
-            key,
-            &mut total[..width],
-            &mut room[..end],
-        ),
+    let params = match parameters(h) {
+        Ok(params) => params,
         Err(reason) => {
             reasons::told_file(rt, "switching_key", Err(reason), Stored::Whole);
-            None
+            return None;
         }
-    }
+    };
+    let mut words = [0u32; 8196];
+    let total = four_of(params.input_dimension, &mut words)?;
+    let room = four_of(params.output_dimension, room)?;
+    serve(rt, params, h.modulus, key, total, room)
 }
 
 // The switched total goes into `room`.
