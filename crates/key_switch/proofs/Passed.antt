@@ -38,7 +38,7 @@ module _ {P : LweKeySwitchingParameters} {key input : List ℕ} {room : ℕ} whe
         words = words_ok _ input words.1;
       }
 
-  batch_passed : 0 ≡ refusal (batch_rows P key input room) → Switchable P key input (length input / (n_in P + 1)) room
+  pub batch_passed : 0 ≡ refusal (batch_rows P key input room) → Switchable P key input (length input / (n_in P + 1)) room
   batch_passed told =
       let no = passed (batch_rows P key input room) (sym told) in
       switchable _ _ _ (sym told) (batch_whole (length input) (n_in P) (no 10 tt)) (length_ok _ _ (no 11 tt))
