@@ -32,7 +32,7 @@ pub enum Refusal {
 
 impl Refusal {
     // What it means.
-    pub fn meaning(self) -> &'static str {
+    fn meaning(self) -> &'static str {
         match self {
             Refusal::BaseLog => "the base log is below 2 or above 31",
             Refusal::Modulus => "the modulus is below 4",

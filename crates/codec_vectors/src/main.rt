@@ -41,6 +41,7 @@ impl Score {
 }
 
 // What stands next in a file: a record and whether the codec answers as it says, or the file's end.
+// Stays: an enum of three: an end is no fault, and a record that differs is none either.
 enum Next {
     Record(bool),
     End,

@@ -53,6 +53,7 @@ fn on_short_word(input: &mut impl Read, s: &mut State) -> bool {
 }
 
 // One record, and whether there may be more. The last is a zero byte; anything else is counted as wrong.
+// Stays beside `file` and `all` of the other vector programs: another count, and records of another kind.
 fn one(input: &mut impl Read, s: &mut State) -> bool {
     match programs::record::<1>(input).map(|tag| tag[0]) {
         Some(1) => on_basis(input, s),

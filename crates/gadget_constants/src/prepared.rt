@@ -9,7 +9,7 @@ ghost use Rattle.gadget_constants.specs.Prepared.{Narrow, wrap_at, Ready, prepar
 use primus_reduce::Modulus;
 
 // A basis with its constants, prepared once for many words: q, base log, L, d, T, 2^k − q and q − B.
-// Stays: no ghost field says `Ready`: `init_value_carry` and `decomposer` take any constants, and an answer's definition names those of any numbers.
+// Stays: no ghost field says `Ready`: `init_value_carry` and `decomposer` are promised of any constants, whether or not a number applies.
 #[derive(Clone, Copy)]
 pub struct PreparedBasis {
     pub modulus: Modulus,

@@ -41,7 +41,7 @@ pub(crate) fn switch_refusal(
 }
 
 // `count` ciphertexts whose checks have passed.
-// Stays: `count`, which both callers have: from a length and n it would take one more division.
+// Stays: `count`, which the callers have from their checks; to take it from a length again is no plainer.
 pub(crate) fn switch_judged(
     out: &mut [u32],
     input: &[u32],

@@ -14,7 +14,7 @@ use primus_reduce::{Divisor, Modulus};
 // Room for the accumulators of a tile, each row of the largest dimension and a body.
 const ACCUMULATORS: usize = TILE * (LweDimension::MAX + 1);
 
-// One tile; acc is room for the accumulators of an explicit modulus.
+// One tile; acc is room for the accumulators of an explicit modulus. Stays: a match: only one kernel needs that room.
 fn switch_tile(acc: &mut [u64], out: &mut [u32], tile: Tile)
     requires { (length acc.old ≡ tile.rows * (tile.shape.m + 1)) × (length out.old ≡ tile.rows * (tile.shape.m + 1)) }
     ensures { out.new ≡ switched_tile tile.entry }
@@ -26,7 +26,7 @@ fn switch_tile(acc: &mut [u64], out: &mut [u32], tile: Tile)
 }
 
 // Switches `count` ciphertexts. The accumulators are made once, for every tile.
-// Stays: `count`, which the caller has: from a length and n it would take one more division.
+// Stays: `count`, which the caller has from its checks; to take it from a length again is no plainer.
 pub fn switch_tiles(out: &mut [u32], input: &[u32], key: &[u32], count: usize, shape: Shape)
     requires { Shaped shape.basis shape.n shape.m count input.now key.now × (length out.old ≡ count * (shape.m + 1)) }
     ensures { out.new ≡ switched_batch (basis_in shape.basis) shape.n shape.m key.now count input.now }

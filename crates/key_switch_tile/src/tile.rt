@@ -27,7 +27,7 @@ fn start_row(out: &mut [u32], body: u32)
     out[last] = body;
 }
 
-// Stays: the length of `out` and `acc` is required: a ghost field beside a `&mut` is not covered by the language.
+// Stays: the length of `out` and `acc` is required: the kit's NOT_COVERED names a ghost field beside a `&mut`.
 impl<'a> Tile<'a> {
     ghost use Rattle.std.specs.Prelude.{◌+◌, ◌*◌, map};
     ghost use Rattle.key_switch_tile.specs.Switched.{LanesOf, begun_tile, ReachedBy, FitsTile, GrownBy};

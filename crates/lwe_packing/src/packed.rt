@@ -33,7 +33,7 @@ impl<'a> Rotation<'a> {
         modulus.reduce_sub(prefix, suffix)
     }
 
-    // Body i less its mask product.
+    // Body i less its mask product. Stays: that i is a place of the mask, which no type says of an index.
     #[tactic(auto, using(crate::proofs::Laws::phase_is))]
     fn phase(self, body: u32, i: usize) -> u32
         requires { i < length self.mask.now }

@@ -62,7 +62,7 @@ fn agrees(record: &Record) -> io::Result<bool> {
     Ok(said::agrees(said, head) && out == record.after)
 }
 
-// What comes next in a file.
+// What comes next in a file. Stays: an enum of three, as in codec_vectors.
 enum Outcome {
     Equal(u32),
     Differs(u32),

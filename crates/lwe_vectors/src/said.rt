@@ -6,7 +6,7 @@ use primus_lattice::LweTag;
 
 pub(crate) type Said = Option<Result<u32, Refusal>>;
 
-// The call said what a record says.
+// The call said what a record says. Stays: numbers compared, which a record has.
 pub(crate) fn agrees(said: Said, head: Head) -> bool {
     match said {
         Some(Ok(value)) => head.refusal == 0 && head.answer == value,

@@ -13,7 +13,7 @@ use primus_lattice::{LweDimension, LweTag};
 // The number of levels that leaves them open.
 const FULL: u32 = 0xffff_ffff;
 
-// The answer of a record whose entry is not there.
+// The answer of a record whose entry is not there. Stays: the number that the file has for it.
 const MISSING: u32 = 0xffff_ffff;
 
 fn levels(n: u32) -> Option<DecompositionLevelCount> {

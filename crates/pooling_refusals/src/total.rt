@@ -47,7 +47,7 @@ fn rows_differ(dimension: LweDimension, h: Head, len: usize) -> bool
         | dimension.differs(h.n)
 }
 
-// 14: one of the first `count` words of a file. Stays: a loop, as for tallies.
+// 14: one of the first `count` words of a file. Stays: a loop, as pooling_rows has for tallies, where the proof of `any` did not close.
 #[tactic(auto, using(crate::proofs::Laws::words_none, crate::proofs::Laws::words_next))]
 fn file_words_refused(q: Modulus, bytes: &[u8], count: usize) -> bool
     ensures { result ≡ words_fail (size_of q) (file_words bytes.now count) }

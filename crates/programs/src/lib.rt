@@ -10,7 +10,7 @@ use std::io::Read;
 use std::rt::Files;
 
 // A file to read; where it cannot be opened, standard error says why.
-// Stays: no clause, since `fs::open` has none: which file a name opens, and when it opens, no contract can say.
+// No clause, since `fs::open` has none: which file a name opens, and when it opens, no contract can say.
 pub fn open_named<R: Files + Eprint>(rt: &R, name: &str) -> Option<R::File> {
     match fs::open(rt, name) {
         Ok(file) => Some(file),
@@ -21,7 +21,7 @@ pub fn open_named<R: Files + Eprint>(rt: &R, name: &str) -> Option<R::File> {
     }
 }
 
-// One read; one that fails gives no byte.
+// One read. Stays: one that fails gives no byte: a file ends there.
 pub fn read_some(input: &mut impl Read, bytes: &mut [u8]) -> usize
     ensures { result ≤ length bytes.new }
 {

@@ -16,7 +16,7 @@ use std::rt::Files;
 pub const ROOM: usize = 65537;
 
 // What stands under a name: nothing that can be opened, bytes that are no whole file, or a whole one.
-// Stays: three answers of one kind, no Result: a whole file of another kind is refused by 19 too.
+// Stays: no Result: `Whole` is no success, since a whole file of another kind is refused by 19 too.
 #[derive(Clone, Copy)]
 pub enum Stored {
     Missing,
