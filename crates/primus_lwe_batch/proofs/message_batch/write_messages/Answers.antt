@@ -12,4 +12,3 @@ loop-i-init c = rows_start _ _ _ _ _ _ _ _ c.requires.0
 pub loop-i-preserved : goal.loop-i-preserved
 loop-i-preserved c =
     rows_more _ _ _ _ _ _ _ _ _ _ c.loop-i.invariant c.loop-i-test.true _ (ap pos c.encode_as-plaintext.ensures) _ (rw c.ring.ensures at c.encrypt_row.ensures)
-
