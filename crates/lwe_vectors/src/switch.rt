@@ -53,7 +53,15 @@ pub(crate) fn parameters(h: Head) -> Said {
 fn generated(r: &Record, form: Form, out: &mut [u32]) -> Result<(), Refusal> {
     let h = r.head;
     let secret = form.key(r);
-    LweKeySwitchingKey::generate(parameters_of(h)?, h.error_limit, secret, &r.c, &r.b, &r.e, out)
+    LweKeySwitchingKey::generate(
+        parameters_of(h)?,
+        h.error_limit,
+        secret,
+        &r.c,
+        &r.b,
+        &r.e,
+        out,
+    )
 }
 
 pub(crate) fn key(r: &Record, form: Form, out: &mut [u32]) -> Said {

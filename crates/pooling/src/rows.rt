@@ -10,7 +10,12 @@ use lwe_parameters::LweDecryptionParameters;
 use pooling_rows::add_row;
 
 // Adds each ciphertext of a file to that of its place, and their tallies.
-pub(crate) fn add_rows(total: &mut [u32], tallies: &mut [u64], params: LweDecryptionParameters, bytes: &[u8])
+pub(crate) fn add_rows(
+    total: &mut [u32],
+    tallies: &mut [u64],
+    params: LweDecryptionParameters,
+    bytes: &[u8],
+)
     requires { total_refusal params bytes.now total.old tallies.old ≡ 0 }
     ensures { (total.new ≡ add_words (size_of params.modulus) total.old
         (file_words bytes.now (length total.old)))
