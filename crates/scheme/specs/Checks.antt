@@ -73,9 +73,9 @@ basis_rows w m b L =
 abbrev pub dimension_fails : ℕ → Bool
 dimension_fails n = ltb n 1 || ltb 2048 n
 
--- "7. The plaintext modulus t is below 2 or above 65,536."
+-- "7. The plaintext modulus t is below 2 …": "Refusal 7 then covers only t below 2, and 8 the rest" (T-10)
 abbrev pub plaintext_fails : ℕ → Bool
-plaintext_fails t = ltb t 2 || ltb 65536 t
+plaintext_fails t = ltb t 2
 
 -- "8. An explicit modulus is at most t."
 abbrev pub small_fails : ℕ → Modulus → Bool
