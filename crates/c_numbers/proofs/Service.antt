@@ -1,10 +1,14 @@
 -- One number that the service can trust: where none of 2, 7, 8, 14 applies it is the message, which is below t; else it is 2^32 plus
--- the first that does.
+-- the first that does. So for any t that is a word, the number is below 2^32 exactly where there is a message (`unambiguous`).
 -- Assumes nothing.
-use mathlib.Core.Path.{◌≡◌, sym, ap}
+use mathlib.Core.Path.{◌≡◌, refl, sym, ap, ◌∙◌}
+use mathlib.Core.Logic.{◌↔◌}
+use mathlib.Core.Bool.{Bool, true, false}
 use Rattle.std.proofs.Common.{Result, Ok, Err}
 use Prim.Native.Nat.{ℕ, ◌+◌, ◌^◌, ◌<◌, ◌≤◌}
 use native.Mathlib.Omega.{arith}
+use lib.Dec.{eqb}
+use borrow.Author.Tests.{eq-eqb, eqb-true}
 use Rattle.check_order.specs.declared.refusal.Refusal.{Refusal}
 use Rattle.scheme.specs.Codec.{decode}
 use Rattle.scheme.specs.Checks.{refusal}
@@ -43,3 +47,13 @@ told n t p = record { message = λ e. (ap word_number (accepted (decode_rows t (
         by_code : (r : Result ℕ Refusal) → code_of r ≡ refusal_of n t p → word_number r ≡ 2 ^ 32 + refusal_of n t p
         by_code (Ok x) e = absurd (h (sym e))
         by_code (Err r) e = ap (λ k. 2 ^ 32 + k) e
+
+pub unambiguous : (n t p : ℕ) → t < 2 ^ 32 → (decode_number n t p < 2 ^ 32) ↔ (refusal_of n t p ≡ 0)
+unambiguous n t p h = (λ l. go l (eqb (refusal_of n t p) 0) refl, λ e. let m = (told n t p).message e in omega (arith, m.0, m.1))
+  where
+    differ : true ≡ false → ⊥
+    differ e = let z : ◌≡◌ {A = ℕ} 0 1 = cc in omega (arith, z)
+
+    go : decode_number n t p < 2 ^ 32 → (b : Bool) → eqb (refusal_of n t p) 0 ≡ b → refusal_of n t p ≡ 0
+    go l true e = eqb-true _ 0 e
+    go l false e = absurd (omega (arith, l, (told n t p).refusal (λ z. differ (sym (eq-eqb _ 0 z) ∙ e))))

@@ -39,7 +39,7 @@ impl Refusal {
             Refusal::Base => "the modulus is below the base",
             Refusal::Levels => "the level count is 0 or more than fit",
             Refusal::Dimension => "a dimension is 0 or above 2048",
-            Refusal::PlaintextModulus => "the plaintext modulus is below 2 or above 65536",
+            Refusal::PlaintextModulus => "the plaintext modulus is below 2",
             Refusal::SmallModulus => "the modulus is at most the plaintext modulus",
             Refusal::KeyLength => "a key has the wrong length",
             Refusal::InputLength => "ciphertexts have the wrong length or dimension",

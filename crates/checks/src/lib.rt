@@ -22,11 +22,11 @@ pub fn modulus_refused(q: Modulus) -> bool
     }
 }
 
-// 7: the plaintext modulus t is below 2 or above 65,536.
+// 7: the plaintext modulus t is below 2.
 pub fn plaintext_refused(t: u32) -> bool
     ensures { result ≡ plaintext_fails t }
 {
-    t < 2 || 65536 < t
+    t < 2
 }
 
 // 8: an explicit modulus is at most t.
