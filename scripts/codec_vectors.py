@@ -1,4 +1,4 @@
-"""Test vectors for the rounded codec, computed from document 01.
+"""Test vectors for the rounded codec, computed from document 01, with any t below q (T-10).
 
     python3 scripts/codec_vectors.py          write the file
     python3 scripts/codec_vectors.py --check  compare with the stored file
@@ -23,6 +23,7 @@ place has its words in the buffer. Calls: 1 encode_slice_to, 2 encode_slice_assi
 
 import struct
 import sys
+from math import gcd
 
 sys.dont_write_bytecode = True  # importing must leave no file in the repository
 
@@ -35,9 +36,12 @@ SMALL_MODULI = range(4, 33)
 LARGE_MODULI = [
     None, 2**31 - 1, 2**31, 2**31 + 1, 2**32 - 1, 2**32 - 5, 3221225473, 65537, 65538, 12289,
 ]
-LARGE_PLAIN = [2, 3, 4, 5, 7, 16, 255, 256, 257, 1000, 12288, 32768, 65535, 65536]
-CHECKED_MODULI = [None, 0, 1, 2, 3, 4, 5, 65535, 65536, 65537, 65538, 2**32 - 1]
-CHECKED_PLAIN = [0, 1, 2, 3, 4, 5, 65535, 65536, 65537, 65538, 2**31, 2**32 - 1]
+LARGE_PLAIN = [
+    2, 3, 4, 5, 7, 16, 255, 256, 257, 1000, 12288, 32768, 65535, 65536, 65537, 1000003, 2**20, 2**24 - 1, 2**31 - 1, 2**31,
+    2**31 + 1, 3000000001, 2**32 - 6, 2**32 - 2,
+]
+CHECKED_MODULI = [None, 0, 1, 2, 3, 4, 5, 65535, 65536, 65537, 65538, 2**31, 2**32 - 1]
+CHECKED_PLAIN = [0, 1, 2, 3, 4, 5, 65535, 65536, 65537, 65538, 2**31 - 1, 2**31, 2**32 - 2, 2**32 - 1]
 
 
 class Codec:
@@ -47,7 +51,7 @@ class Codec:
         """A modulus of None is native."""
         if modulus is not None and modulus < 4:
             raise Refusal(2)
-        if t < 2 or t > 65536:
+        if t < 2:
             raise Refusal(7)
         if modulus is not None and modulus <= t:
             raise Refusal(8)
@@ -102,15 +106,25 @@ def small_moduli():
                 yield value_record(q, t, x, draw.below(q + 1))
 
 
+def ties(q, t):
+    """The first three messages whose scaled value lies midway between two words: 2mq + t is a multiple of 2t."""
+    g = gcd(q, t)
+    if t // 2 % g or t % 2:
+        return []
+    step = t // g
+    first = t // 2 // g * pow(q // g, -1, step) % step
+    found = [m for m in range(first, min(t, first + 3 * step), step)]
+    assert all((2 * m * q + t) % (2 * t) == 0 for m in found)
+    return found
+
+
 def edges(q, t, draw):
     """Messages and phases where a rounding, the embedding or the final mod t turns over."""
     numbers = {0, 1, t - 1, t, q - 2, q - 1, q, q // 2, (t + 1) // 2 - 1, (t + 1) // 2, t // 2}
     for k in {0, 1, t // 2, t - 2, t - 1, draw.below(t)}:
         half = ((2 * k + 1) * q + 2 * t - 1) // (2 * t)  # the first phase that rounds up to k + 1
         numbers.update((half - 1, half, half + 1))
-    # Messages whose scaled value lies midway between two words: 2mq + t is a multiple of 2t.
-    ties = [m for m in range(t) if (2 * m * q + t) % (2 * t) == 0][:3]
-    numbers.update(ties)
+    numbers.update(ties(q, t))
     numbers.update(draw.below(t) for _ in range(4))
     numbers.update(draw.below(q) for _ in range(4))
     return sorted(x for x in numbers if 0 <= x < 2**32)
@@ -121,7 +135,7 @@ def large_moduli():
     for modulus in LARGE_MODULI:
         q = 2**32 if modulus is None else modulus
         for t in LARGE_PLAIN + [q - 1]:
-            if t >= q or t > 65536:
+            if t >= q:
                 continue
             for x in edges(q, t, draw):
                 yield value_record(modulus, t, x, min(draw.choose([0, q - 1, q, draw.below(q)]), 2**32 - 1))
@@ -167,7 +181,7 @@ def slice_record(modulus, t, call, centered, lent, before):
 def slices():
     draw = Draw(5)
     for modulus, t in ((17, 4), (17, 16), (5, 4), (4, 3), (None, 2), (None, 65536), (65537, 65536),
-                       (2**32 - 1, 1000), (2**31, 255), (12289, 2)):
+                       (2**32 - 1, 1000), (2**31, 255), (12289, 2), (None, 2**32 - 1), (2**32 - 5, 1000003)):
         q = 2**32 if modulus is None else modulus
         word = lambda: draw.choose([0, q - 1, draw.below(q)])
         message = lambda: draw.choose([0, t - 1, t // 2, draw.below(t)])
@@ -192,9 +206,13 @@ def slices():
 
 
 def check_cases():
-    """The cases that document 01 itself lists for the codec."""
+    """The cases that document 01 itself lists for the codec, and one that takes 65 bits as it stands (T-10)."""
     codec = Codec(17, 4)
     assert codec.embed(2, False) == 9 and codec.embed(2, True) == 8 and codec.decode(16) == 0
+    assert Codec(None, 2**32 - 1).decode(2**32 - 1) == 4294967294
+    for q in range(4, 60):
+        for t in range(2, q):
+            assert ties(q, t) == [m for m in range(t) if (2 * m * q + t) % (2 * t) == 0][:3]
 
 
 def main():

@@ -1,4 +1,4 @@
-"""Test vectors for LWE ciphertexts, computed from document 01.
+"""Test vectors for LWE ciphertexts, computed from document 01, with any t below q (T-10).
 
     python3 scripts/lwe_vectors.py          write the file
     python3 scripts/lwe_vectors.py --check  compare with the stored file
@@ -40,6 +40,8 @@ EDGE_MODULI = [4, 5, 2**31, 2**31 + 1, 2**32 - 1]
 LOWEST, HIGHEST = -(2**31), 2**31 - 1
 WORD_MAX = 2**32 - 1
 LIMIT = 1048576
+# A plaintext modulus for money in cents (T-10).
+CENTS = 1000003
 # The words that the program has room for.
 ROOMS = [8192, 8192, 8192, 2048, 2048, 8192]
 
@@ -146,7 +148,7 @@ def common(k):
 
 
 def plaintext_rows(k):
-    yield 7, k.t < 2 or k.t > 65536
+    yield 7, k.t < 2
     yield 8, k.modulus is not None and k.modulus <= k.t
 
 
@@ -165,8 +167,8 @@ class Pick:
         self.q = q = 2**32 if modulus is None else modulus
         most = min(q - 1, LIMIT) if q else 0
         self.E = min(draw.choose([0, 1, 3, most, draw.below(most + 1)]), most) if E is None else E
-        most = min(q - 1, 65536) if q > 2 else 2
-        plain = [x for x in (2, 3, 4, 7, 16, 256, 1000, 65536, most) if x <= most]
+        most = max(q - 1, 2)
+        plain = [x for x in (2, 3, 4, 7, 16, 256, 1000, 65536, CENTS, 2**31, most) if x <= most]
         self.t = draw.choose(plain) if t is None else t
         self.centered = draw.below(2) == 1
 
@@ -282,9 +284,13 @@ class Call:
         elif number == 6:
             yield from (replace(k, n=n) for n in (0, 2049, 2**32 + 1))
         elif number == 7:
-            yield from (replace(k, t=t) for t in (0, 1, 65537, WORD_MAX))
-        elif number == 8 and 2 <= q <= 65536:
-            yield from (replace(k, t=t) for t in (q, q + 1) if t <= 65536)
+            yield from (replace(k, t=t) for t in (0, 1))
+            # Under t = 1 a message of 0 is not refused by 16 besides.
+            zeros = {"value": 0} if "value" in self.fields.get(16, ()) else {"c": [0] * len(k.c)}
+            if 16 in self.fields:
+                yield replace(k, t=1, **zeros)
+        elif number == 8:
+            yield from (replace(k, t=t) for t in (q, q + 1, WORD_MAX) if q <= t <= WORD_MAX)
         elif number == 13:
             yield from (replace(k, E=E) for E in (LIMIT + 1, WORD_MAX, q, q + 1) if E <= WORD_MAX)
         elif number in (9, 10, 11, 12):
@@ -980,7 +986,9 @@ def refused(call, chosen, draw, tries=200):
     """A case to which the chosen numbers apply, or None."""
     for _ in range(tries):
         modulus = draw.choose(MODULI)
-        if 2 in chosen and draw.below(2):
+        if {7, 8} <= set(chosen):
+            modulus = 1  # q ≤ t < 2: then 2 applies too
+        elif 2 in chosen and draw.below(2):
             modulus = 3 if call.takes_t else draw.choose([1, 2, 3])
         n = 1 + draw.below(min(4, most(call)))
         k = call.make(Pick(draw, modulus, n))
@@ -1061,6 +1069,7 @@ def marks():
     """Tallies about the equality 2t x tally + t = q, and the largest."""
     for t, tally in (
         (2, 0), (2, 1), (3, 1), (4, 2), (5, 3), (16, 1000), (255, 7), (65536, 1), (65536, 32767), (65535, 32768),
+        (65537, 1), (CENTS, 0), (CENTS, 2146), (2**30, 1), (2**31 - 1, 0), (2**31, 0), (2**32 - 3, 0), (2**32 - 2, 0),
     ):
         equal = 2 * t * tally + t
         for modulus in (equal - 1, equal, equal + 1):
@@ -1069,12 +1078,38 @@ def marks():
                     yield Case(modulus, 1, t=t, a=tag(GIVEN, a))
                     yield Case(modulus, 1, t=t, a=tag(FRESH, a))
     for modulus in MODULI:
-        for t in (2, 4, 15, 65536):
+        for t in (2, 4, 15, 65536, CENTS, 2**31, 2**32 - 1):
             for a in TALLIES:
                 yield Case(modulus, 1, t=t, a=a)
             edge = ((2**32 if modulus is None else modulus) - t) // (2 * t)
             for a in sorted({max(edge - 1, 0), max(edge, 0), max(edge + 1, 0)}):
                 yield Case(modulus, 1, t=t, a=tag(GIVEN, a))
+
+
+def cents():
+    """Three shops' counts in cents, summed and opened: call -> cases. The sum is marked good and opens to the sum."""
+    made = {kind: [] for kind in (EncryptMessage, Add, Mark, Open)}
+    draw = Draw(900)
+    for modulus in (2**32 - 5, None):
+        p = Pick(draw, modulus, 4, E=3, t=CENTS)
+        counts, secret = [199999, 1234567 % CENTS, 1000002], p.words(4)
+        rows = [
+            replace(EncryptMessage().make(p), a=secret, value=m, centered=centered)
+            for m, centered in zip(counts, (False, True, False))
+        ]
+        words = [EncryptMessage().result(k)[1] for k in rows]
+        total, tally = words[0], 3
+        for row in words[1:]:
+            k = Add().tagged(Case(modulus, 4, out=total, b=row), tag(FRESH, tally), tag(FRESH, 3))
+            made[Add].append(k)
+            total, tally = Add().result(k)[1], tally + 3
+        opening = Case(modulus, 4, t=CENTS, a=secret, b=total)
+        mark = Case(modulus, 1, t=CENTS, a=tag(FRESH, tally))
+        assert Open().result(opening)[0] == sum(counts) % CENTS and Mark().result(mark)[0] == 1
+        made[EncryptMessage] += rows
+        made[Mark].append(mark)
+        made[Open].append(opening)
+    return made
 
 
 def dimensions():
@@ -1100,6 +1135,7 @@ def cases(call):
         return
     if isinstance(call, Mark):
         yield from marks()
+    yield from cents().get(type(call), ())
     yield from accepted(call)
     yield from embeddings(call)
     yield from bounds(call)
