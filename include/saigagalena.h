@@ -5,7 +5,7 @@
  *
  *   modulus      the ciphertext modulus q; 0 stands for the native modulus 2^32
  *   n, m         dimensions, from 1 to 2048; a ciphertext has n mask words, then the body
- *   t            the plaintext modulus, from 2 to 65536
+ *   t            the plaintext modulus, from 2 to q - 1
  *   error_limit  E: lent errors lie within -E .. E
  *   base_log     log2 of the base B of the digits, from 2 to 31
  *   levels       L; 0 stands for as many as fit
@@ -29,7 +29,7 @@
 #include <stdint.h>
 
 /* The release that this header is of; saigagalena_version() says which one the library is of. */
-#define SAIGAGALENA_VERSION 2
+#define SAIGAGALENA_VERSION 3
 
 /* An answer of 64 bits above this is a refusal: this plus the refusal number. */
 #define SAIGAGALENA_REFUSED UINT64_C(0x100000000)
@@ -44,7 +44,7 @@
 #define SAIGAGALENA_NO_LEVEL_FITS 4       /* retired: no call gives it, and nothing else will bear the number */
 #define SAIGAGALENA_LEVELS 5              /* more levels than fit */
 #define SAIGAGALENA_DIMENSION 6           /* a dimension is 0 or above 2048 */
-#define SAIGAGALENA_PLAINTEXT_MODULUS 7   /* t is below 2 or above 65536 */
+#define SAIGAGALENA_PLAINTEXT_MODULUS 7   /* t is below 2 */
 #define SAIGAGALENA_MODULUS_AT_MOST_T 8   /* the modulus is not 0 and at most t */
 #define SAIGAGALENA_KEY_LENGTH 9          /* a key has another length than its dimensions and levels give */
 #define SAIGAGALENA_INPUT_LENGTH 10       /* ciphertexts of the wrong length, more than n packed messages, no such body */
@@ -67,7 +67,7 @@ static inline const char *saigagalena_refusal_text(uint32_t refusal)
         "retired",
         "the level count is 0 or above what fits",
         "a dimension is 0 or above 2048",
-        "the plaintext modulus is below 2 or above 65536",
+        "the plaintext modulus is below 2",
         "the modulus is at most the plaintext modulus",
         "a key has the wrong length",
         "ciphertexts of the wrong length, too many packed messages, or no such body",

@@ -4,7 +4,7 @@
 #![allow(dead_code)]
 
 /// The release that these declarations are of.
-pub const VERSION: u32 = 2;
+pub const VERSION: u32 = 3;
 /// An answer of 64 bits above this is a refusal: this plus the refusal number.
 pub const REFUSED: u64 = 1 << 32;
 /// The tally of a public-key, packed or switched ciphertext: none.

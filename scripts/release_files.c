@@ -324,13 +324,13 @@ static void make_switched(struct release *r, const char *name, const uint32_t *k
     save_rows(r, name, out, M, ROWS, r->group, tally);
 }
 
-static void make_release(const char *name, uint32_t modulus, uint64_t seed)
+static void make_release(const char *name, uint32_t modulus, uint32_t t, uint64_t seed)
 {
     static struct release r;
 
     r.name = name;
     r.d = (struct draw){seed, modulus};
-    r.t = 256;
+    r.t = t;
     r.bound = 3;
     find_levels(&r);
     make_secrets(&r);
@@ -414,13 +414,15 @@ static void make_box(void)
 int main(int argc, char **argv)
 {
     if (argc != 2) {
-        fprintf(stderr, "usage: release_files FOLDER, with folders native, prime, power and box in it\n");
+        fprintf(stderr, "usage: release_files FOLDER, with a folder for each setting in it\n");
         return 2;
     }
     folder = argv[1];
-    make_release("native", 0, 101);
-    make_release("prime", 132120577, 102);
-    make_release("power", 1u << 27, 103);
+    make_release("release_1/native", 0, 256, 101);
+    make_release("release_1/prime", 132120577, 256, 102);
+    make_release("release_1/power", 1u << 27, 256, 103);
+    make_release("release_3/native", 0, 1000003, 105);
+    make_release("release_3/prime", 4294967291u, 1000003, 106);
     make_box();
     return 0;
 }

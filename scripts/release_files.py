@@ -1,14 +1,16 @@
-"""The saved files of this release, and the files that the pooling box is run on, computed from document 01.
+"""The saved files of the releases, and the files that the pooling box is run on, computed from document 01.
 
     python3 scripts/release_files.py          write the files
     python3 scripts/release_files.py --check  compare with the stored files
 
 docs/FILES.md has the layout. Random words come from fixed seeds, in the order in which they are drawn here;
-scripts/release_files.c writes the files of the release once more, from the same seeds, through the library's C calls.
+scripts/release_files.c writes the files of the releases once more, from the same seeds, through the library's C calls.
 
-    crates/release_files/data/release_1/SETTING/NAME          a saved key or ciphertext
-    crates/release_files/data/release_1/SETTING/NAME.opens    the messages that it opens to
-    crates/pooling_box/data/NAME                              the box's files: some are damaged on purpose
+    crates/release_files/data/RELEASE/SETTING/NAME          a saved key or ciphertext
+    crates/release_files/data/RELEASE/SETTING/NAME.opens    the messages that it opens to
+    crates/pooling_box/data/NAME                            the box's files: some are damaged on purpose
+
+Release 3 is the first that serves plaintext moduli above 65,536 (T-10): its files count in cents.
 
 The files of a release are never written anew: a later release adds its own beside them.
 """
@@ -25,9 +27,12 @@ from switch_vectors import generated, obeys, switched
 
 SECRET, SIGNED_SECRET, SWITCHING_KEY, PUBLIC_KEY, CIPHERTEXTS, PACKED, MESSAGES = range(1, 8)
 
-# name, modulus (None is native), seed
-SETTINGS = [("native", None, 101), ("prime", 132120577, 102), ("power", 2**27, 103)]
-N, M, BASE_LOG, T, E = 24, 16, 4, 256, 3
+# folder, modulus (None is native), t, seed
+SETTINGS = [
+    ("release_1/native", None, 256, 101), ("release_1/prime", 132120577, 256, 102), ("release_1/power", 2**27, 256, 103),
+    ("release_3/native", None, 1000003, 105), ("release_3/prime", 2**32 - 5, 1000003, 106),
+]
+N, M, BASE_LOG, E = 24, 16, 4, 3
 
 
 def saved(kind, modulus, words, n=0, m=0, base_log=0, levels=0, t=0, bound=0, count=0, tallies=None):
@@ -63,21 +68,21 @@ class Drawn:
 class Setting(Drawn):
     """The files of one modulus, name -> bytes. Most methods draw: the order of the calls decides what is stored."""
 
-    def __init__(self, modulus, seed):
+    def __init__(self, modulus, t, seed):
         super().__init__(modulus, seed)
-        self.basis, self.codec, self.files = Basis(modulus, BASE_LOG), Codec(modulus, T), {}
+        self.t, self.basis, self.codec, self.files = t, Basis(modulus, BASE_LOG), Codec(modulus, t), {}
 
     def put(self, name, kind, words, **more):
         self.files[name] = saved(kind, self.modulus, words, **more)
 
     def put_messages(self, name, messages):
-        self.put(name + ".opens", MESSAGES, messages, t=T, count=len(messages))
+        self.put(name + ".opens", MESSAGES, messages, t=self.t, count=len(messages))
 
     def put_ciphertexts(self, name, rows, secret, messages, tally=None):
         assert [self.codec.decode(phase_of(self.q, row, secret)) for row in rows] == messages
         words = [w for row in rows for w in row]
         tallies = None if tally is None else [tally] * len(rows)
-        self.put(name, CIPHERTEXTS, words, n=len(secret), t=T, bound=E, count=len(rows), tallies=tallies)
+        self.put(name, CIPHERTEXTS, words, n=len(secret), t=self.t, bound=E, count=len(rows), tallies=tallies)
         self.put_messages(name, messages)
 
     def secrets(self):
@@ -104,7 +109,7 @@ class Setting(Drawn):
         return key
 
     def fresh(self, name, secret, centered):
-        masks, errors, messages = self.words(4 * N), self.errors(4, E), self.messages(4, T)
+        masks, errors, messages = self.words(4 * N), self.errors(4, E), self.messages(4, self.t)
         plain = [self.codec.embed(x, centered) for x in messages]
         rows = rows_of(encrypted_rows(self.q, N, masks, secret, errors, plain), N + 1)
         self.put_ciphertexts(name, rows, secret, messages, E)
@@ -113,19 +118,19 @@ class Setting(Drawn):
     def summed(self, secret, rows, messages):
         """Each fresh ciphertext and the one after it, round."""
         sums = [[(x + y) % self.q for x, y in zip(a, b)] for a, b in zip(rows, rows[1:] + rows[:1])]
-        opened = [(x + y) % T for x, y in zip(messages, messages[1:] + messages[:1])]
+        opened = [(x + y) % self.t for x, y in zip(messages, messages[1:] + messages[:1])]
         self.put_ciphertexts("summed", sums, secret, opened, 2 * E)
         return sums, opened
 
     def packed(self, secret):
-        mask, errors, messages = self.words(N), self.errors(N // 2, E), self.messages(N // 2, T)
+        mask, errors, messages = self.words(N), self.errors(N // 2, E), self.messages(N // 2, self.t)
         words = packed(self.q, N, mask, secret, errors, [self.codec.embed(x, False) for x in messages])
         assert [self.codec.decode(p) for p in packed_phases(self.q, N, words, secret)] == messages
-        self.put("packed", PACKED, words, n=N, t=T, bound=E, count=len(messages))
+        self.put("packed", PACKED, words, n=N, t=self.t, bound=E, count=len(messages))
         self.put_messages("packed", messages)
 
     def public(self, secret, key):
-        rows, messages = [], self.messages(3, T)
+        rows, messages = [], self.messages(3, self.t)
         for message in messages:
             errors, coefficients = self.errors(N + 1, E), self.ternary(N)
             rows.append(public_encrypted(self.q, N, key, errors, coefficients, self.codec.embed(message, False)))
@@ -135,9 +140,9 @@ class Setting(Drawn):
         self.put_ciphertexts(name, [switched(self.basis, N, M, key, x) for x in rows], group, messages)
 
 
-def setting(modulus, seed):
+def setting(modulus, t, seed):
     """The files of one modulus: name -> bytes."""
-    s = Setting(modulus, seed)
+    s = Setting(modulus, t, seed)
     secret, signed, group = s.secrets()
     key = s.switching_key("switching_key", secret, group)
     signed_key = s.switching_key("signed_switching_key", signed, group)
@@ -169,10 +174,10 @@ def word_place(i):
     return 64 + 4 * i
 
 
-def box():
+def box(t=BOX_T, rows=COUNTS):
     """The box's files. The shops' secret is drawn here and stored nowhere."""
     d = Drawn(BOX_MODULUS, BOX_SEED)
-    q, basis, codec = d.q, Basis(BOX_MODULUS, BASE_LOG), Codec(BOX_MODULUS, BOX_T)
+    q, basis, codec = d.q, Basis(BOX_MODULUS, BASE_LOG), Codec(BOX_MODULUS, t)
     secret, group = [x % q for x in d.ternary(N)], [x % q for x in d.ternary(M)]
     masks, errors = d.words(N * basis.L * M), d.errors(N * basis.L, BOX_E)
     key = generated(basis, N, secret, group, errors, masks)
@@ -181,11 +186,11 @@ def box():
         "switching_key": saved(SWITCHING_KEY, BOX_MODULUS, key, **shape),
         "group_secret": saved(SECRET, BOX_MODULUS, group, n=M),
     }
-    for name, counts in COUNTS.items():
+    for name, counts in rows.items():
         n = N - 4 if name == "shop_5" else N
         masks, errors = d.words(4 * n), d.errors(4, BOX_E)
         words = encrypted_rows(q, n, masks, secret[:n], errors, [codec.encode(x) for x in counts])
-        shape = dict(n=n, t=BOX_T, bound=BOX_E, count=4, tallies=[BOX_E] * 4)
+        shape = dict(n=n, t=t, bound=BOX_E, count=4, tallies=[BOX_E] * 4)
         files[name] = saved(CIPHERTEXTS, BOX_MODULUS, words, **shape)
 
     # damaged in different ways; shop_5 has another dimension, see above
@@ -199,9 +204,9 @@ def box():
 
 def main():
     files = {f"crates/pooling_box/data/{name}": content for name, content in box().items()}
-    for name, modulus, seed in SETTINGS:
-        for file, content in setting(modulus, seed).items():
-            files[f"crates/release_files/data/release_1/{name}/{file}"] = content
+    for folder, modulus, t, seed in SETTINGS:
+        for file, content in setting(modulus, t, seed).items():
+            files[f"crates/release_files/data/{folder}/{file}"] = content
     write_or_check(files)
 
 

@@ -1,5 +1,5 @@
 #!/bin/sh
-# Writes the saved files of the release, and those of the pooling box, through the library's C calls, and compares them byte for byte with the
+# Writes the saved files of the releases, and those of the pooling box, through the library's C calls, and compares them byte for byte with the
 # stored ones. No part of the gate: it wants a C compiler (CC, default cc) on x86-64.
 # ARCHIVE names another archive than the one that is built here, INCLUDE another folder of its header.
 set -eu
@@ -10,8 +10,9 @@ case $include in '' | /*) ;; *) include=$PWD/$include ;; esac
 . "$(dirname "$0")/archive.sh"
 cc=${CC:-cc}
 "$cc" -std=c11 -Wall -Wextra -Wpedantic -Werror -O2 -I"${include:-include}" scripts/release_files.c "$archive" -o "$room/release_files"
-for setting in native prime power box; do mkdir -p "$room/files/$setting"; done
+stored=crates/release_files/data
+for setting in $(cd "$stored" && echo */*) box; do mkdir -p "$room/files/$setting"; done
 "$room/release_files" "$room/files"
-for setting in native prime power; do diff -r "$room/files/$setting" "crates/release_files/data/release_1/$setting"; done
+for release in $(ls "$stored"); do diff -r "$room/files/$release" "$stored/$release"; done
 diff -r "$room/files/box" crates/pooling_box/data
 echo "release_files: OK, $(find "$room/files" -type f | wc -l) files"

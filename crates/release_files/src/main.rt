@@ -58,7 +58,13 @@ fn switched(folder: Folder) -> Result<(), AllocError> {
 }
 
 fn main(rt: HostRuntime) -> Result<(), AllocError> {
-    for path in ["release_1/native/", "release_1/prime/", "release_1/power/"] {
+    for path in [
+        "release_1/native/",
+        "release_1/prime/",
+        "release_1/power/",
+        "release_3/native/",
+        "release_3/prime/",
+    ] {
         let folder = Folder { rt: &rt, path };
         tried(folder)?;
         opened(folder)?;
