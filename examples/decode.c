@@ -16,15 +16,19 @@ static const struct row rows[] = {
     {17, 4, 2, 0},                              /* below half a step */
     {17, 4, 3, 1},                              /* above it */
     {16, 4, 2, 1},                              /* a half rounds up */
-    {0, 65536, 4294967295u, 0},                 /* native, the widest t */
+    {0, 65536, 4294967295u, 0},                 /* native */
     {0, 65536, 4294934528u, 0},                 /* native, the last half */
     {0, 65536, 4294934527u, 65535},             /* and the word before it */
     {4294967295u, 65536, 2147483648u, 32768},   /* the widest explicit modulus */
+    {0, 65537, 0, 0},                           /* t has no limit of its own */
+    {0, 1000003, 858993459u, 200001},           /* cents: a fifth of 2^32 is a fifth of 1,000,003 */
+    {0, 4294967295u, 4294967295u, 4294967294u}, /* the widest t and word: 65 bits on the way */
+    {4294967295u, 4294967294u, 4294967294u, 4294967293u},
     {1, 4, 0, SAIGAGALENA_REFUSED + SAIGAGALENA_MODULUS_BELOW_4},
     {3, 2, 0, SAIGAGALENA_REFUSED + SAIGAGALENA_MODULUS_BELOW_4},
     {17, 0, 0, SAIGAGALENA_REFUSED + SAIGAGALENA_PLAINTEXT_MODULUS},
     {17, 1, 17, SAIGAGALENA_REFUSED + SAIGAGALENA_PLAINTEXT_MODULUS},
-    {0, 65537, 0, SAIGAGALENA_REFUSED + SAIGAGALENA_PLAINTEXT_MODULUS},
+    {65537, 65537, 0, SAIGAGALENA_REFUSED + SAIGAGALENA_MODULUS_AT_MOST_T},
     {17, 17, 99, SAIGAGALENA_REFUSED + SAIGAGALENA_MODULUS_AT_MOST_T},
     {17, 16, 16, 15},
     {17, 4, 17, SAIGAGALENA_REFUSED + SAIGAGALENA_WORD_NOT_BELOW_Q},

@@ -12,7 +12,6 @@ pub enum Check {
     DimensionZero,
     DimensionAbove2048,
     PlaintextModulusBelow2,
-    PlaintextModulusAbove65536,
     ModulusAtMostT,
     SecretLength,
     OutputKeyLength,
@@ -47,7 +46,7 @@ impl Check {
             ModulusBelowBase => 3,
             LevelsAboveFull => 5,
             DimensionZero | DimensionAbove2048 => 6,
-            PlaintextModulusBelow2 | PlaintextModulusAbove65536 => 7,
+            PlaintextModulusBelow2 => 7,
             ModulusAtMostT => 8,
             SecretLength | OutputKeyLength | KeyLength => 9,
             InputLength | PackedCount | BodyIndex => 10,
@@ -181,7 +180,6 @@ fn dimension_checks(call: &Call) -> Vec<(Check, bool)> {
 fn plaintext_checks(call: &Call) -> Vec<(Check, bool)> {
     vec![
         (PlaintextModulusBelow2, call.t < 2),
-        (PlaintextModulusAbove65536, call.t > 65536),
         (ModulusAtMostT, call.q() <= call.t as u64),
     ]
 }

@@ -43,7 +43,7 @@ pub fn allowed(kind: Kind, check: Check) -> Option<&'static [Does]> {
         PlaintextModulusBelow2 | ModulusAtMostT => &[Errs],
         // A basis needs q ≥ B ≥ 4, and a codec q > t, which is check 8; nothing else looks at q.
         ModulusBelow4 if kind.has_basis() => &[Errs],
-        ModulusBelow4 | PlaintextModulusAbove65536 => &[Answers],
+        ModulusBelow4 => &[Answers],
         // Its own limit is usize::MAX − 1.
         DimensionAbove2048 => &[Answers, Errs],
         DimensionZero => dimension_zero(kind),

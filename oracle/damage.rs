@@ -17,7 +17,7 @@ fn damage(draw: &mut Draw, call: &mut Call) {
         3 => call.levels = draw.choose(&[call.full_levels() + 1, u32::MAX]),
         4 => call.n = draw.choose(&dimensions),
         5 => call.m = draw.choose(&dimensions),
-        6 => call.t = draw.choose(&[0, 1, 65537, u32::MAX]),
+        6 => call.t = draw.choose(&[0, 1, u32::MAX]),
         7 => call.t = (q + draw.below(2)).min(u32::MAX as u64) as u32,
         8 | 9 => damage_length(draw, call),
         10 => call.out_len = draw.choose(&[call.out_len + 1, call.out_len.saturating_sub(1), 0]),

@@ -178,10 +178,11 @@ fn parameters(draw: &mut Draw, kind: Kind, (n, m): (usize, usize)) -> Call {
     if kind.has_basis() {
         put_basis(draw, &mut call);
     }
-    let most = (call.q() - 1).min(65536);
+    let most = call.q() - 1;
     let any = draw.between(2, most);
     let small = draw.between(2, most.min(17));
-    call.t = draw.choose(&[any, small, small, 2, most]) as u32;
+    let middle = draw.between(2, most.min(1 << 20));
+    call.t = draw.choose(&[any, middle, small, small, 2, most]) as u32;
     let most = (call.q() - 1).min(LIMIT);
     let any = draw.below(most + 1);
     call.bound = draw.choose(&[any, 0, 1.min(most), 3.min(most), most]) as u32;

@@ -17,7 +17,7 @@ struct kind {
 /* Parameters, each damaged early and late. */
 static const struct kind parameters[] = {
     {BAD_BASE_LOG, BASE, 5}, {BAD_MODULUS, MODULUS, 3}, {BAD_MODULUS_FOR_BASE, BASE, 3}, {BAD_LEVELS, BASE, 4},
-    {BAD_N, N, 6}, {BAD_M, M, 6}, {BAD_T, T, 4}, {BAD_MODULUS_FOR_T, T, 4}, {BAD_BOUND, BOUND, 4},
+    {BAD_N, N, 6}, {BAD_M, M, 6}, {BAD_T, T, 2}, {BAD_MODULUS_FOR_T, T, 4}, {BAD_BOUND, BOUND, 4},
 };
 
 /* What fits nothing else is damaged late only. */
@@ -99,11 +99,9 @@ static void damage_dimension(const struct damage *damage, size_t *n)
 
 static void damage_t(const struct damage *damage, struct operands *o)
 {
-    static const uint32_t bad[] = {0, 1, 65537, UINT32_MAX};
-
     if (damage->what == BAD_T)
-        o->t = bad[damage->variant];
-    else if (damage->variant < 2 && o->modulus >= 4 && o->modulus + damage->variant <= 65536)
+        o->t = damage->variant;
+    else if (damage->variant < 2 && o->modulus >= 4 && o->modulus <= UINT32_MAX - damage->variant)
         o->t = o->modulus + damage->variant;
     else if (damage->variant >= 2 && o->t >= 6)
         o->modulus = o->t - (damage->variant - 2);

@@ -66,8 +66,9 @@ static uint32_t draw_bound(struct draw *d, uint64_t q)
 
 static uint32_t draw_t(struct draw *d, uint64_t q)
 {
-    const uint64_t most = least(q - 1, 65536);
-    const uint64_t values[] = {2, 2, least(3, most), least(4, most), least(256, most), most, 2 + draw_below(d, most - 1)};
+    const uint64_t most = q - 1;
+    const uint64_t values[] = {2,    2,    least(3, most),          least(4, most), least(256, most), least(65536, most), least(65537, most), least(1000003, most),
+                               most, most, 2 + draw_below(d, most - 1)};
 
     return (uint32_t)CHOOSE(d, values);
 }

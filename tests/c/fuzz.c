@@ -110,11 +110,27 @@ static void print_table(void)
     }
 }
 
+/* Argument i, which is a number of at least `from`, or what stands for it where it is not given. */
+static uint64_t argument(int count, char **arguments, int i, uint64_t from, uint64_t otherwise)
+{
+    char *rest;
+    uint64_t number;
+
+    if (i >= count)
+        return otherwise;
+    number = strtoull(arguments[i], &rest, 10);
+    if (rest == arguments[i] || *rest != 0 || arguments[i][0] == '-' || number < from || count > 4) {
+        fprintf(stderr, "usage: c_fuzz.sh [SEED [COUNT [SECONDS]]], numbers, the last two at least 1\n");
+        exit(2);
+    }
+    return number;
+}
+
 int main(int count, char **arguments)
 {
-    const uint64_t seed = count > 1 ? strtoull(arguments[1], NULL, 10) : 1;
-    const uint64_t most = count > 2 ? strtoull(arguments[2], NULL, 10) : 1000000;
-    const unsigned seconds = count > 3 ? (unsigned)strtoul(arguments[3], NULL, 10) : 120;
+    const uint64_t seed = argument(count, arguments, 1, 0, 1);
+    const uint64_t most = argument(count, arguments, 2, 1, 1000000);
+    const unsigned seconds = (unsigned)argument(count, arguments, 3, 1, 120);
     const double start = now();
     uint64_t done = 0;
     int good = 1;

@@ -158,7 +158,7 @@ uint32_t model_applying(const struct call *call, const struct operands *o)
         {base && full_count(o) == 0, 4},
         {base && (level_count(o) == 0 || level_count(o) > full_count(o)), 5},
         {((takes & N) && dimension_fails(o->n)) || ((takes & M) && dimension_fails(o->m)), 6},
-        {t && (o->t < 2 || o->t > 65536), 7},
+        {t && o->t < 2, 7},
         {t && o->modulus != 0 && o->modulus <= o->t, 8},
         {differs(o, want, KEY) || differs(o, want, SIGNED_KEY) || differs(o, want, OUTPUT_KEY), 9},
         {input_fails(call->input, o) || ((takes & SUM) && differs(o, want, OUT)), 10},

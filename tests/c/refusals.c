@@ -123,10 +123,10 @@ static uint32_t listed(const struct call *call)
     return numbers;
 }
 
-/* Whether both were to be seen with x first. Never 4: where it applies, 1 or 3 does. */
+/* Whether both were to be seen with x first. Never 4: where it applies, 1 or 3 does. Nor 7 before 8: where q <= t < 2, 2 applies. */
 static int missing_pair(uint32_t numbers, const struct seen *seen, unsigned x, unsigned y)
 {
-    return x != 4 && numbers >> x & 1 && numbers >> y & 1 && seen->pair[x][y] == 0;
+    return x != 4 && !(x == 7 && y == 8) && numbers >> x & 1 && numbers >> y & 1 && seen->pair[x][y] == 0;
 }
 
 /* The numbers that were given are those that the header lists, each also alone, and each before every later one. */

@@ -130,9 +130,12 @@ uint64_t decompose_result(const struct operands *o, void *out)
 
 /* --- Codec --- */
 
-static uint64_t rounded_up(const struct operands *o, uint64_t m)
+/* 2mq + t has up to 65 bits */
+__extension__ typedef unsigned __int128 wide;
+
+static uint64_t rounded_up(const struct operands *o, wide m)
 {
-    return (2 * m * q_of(o->modulus) + o->t) / (2 * (uint64_t)o->t);
+    return (uint64_t)((2 * m * q_of(o->modulus) + o->t) / (2 * (wide)o->t));
 }
 
 static uint32_t encode(const struct operands *o, uint64_t m)
@@ -144,9 +147,9 @@ static uint32_t encode(const struct operands *o, uint64_t m)
     return (uint32_t)rounded_up(o, m);
 }
 
-static uint32_t decode(const struct operands *o, uint64_t p)
+static uint32_t decode(const struct operands *o, wide p)
 {
-    const uint64_t q = q_of(o->modulus);
+    const wide q = q_of(o->modulus);
 
     return (uint32_t)((2 * p * o->t + q) / (2 * q) % o->t);
 }
@@ -430,7 +433,7 @@ uint64_t tag_result(const struct operands *o, void *out)
 
 uint64_t good_result(const struct operands *o, void *out)
 {
-    const uint64_t t = o->t;
+    const wide t = o->t;
 
     (void)out;
     return o->tally[0] != SAIGAGALENA_NO_TALLY && 2 * t * o->tally[0] + t < q_of(o->modulus);
