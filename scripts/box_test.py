@@ -27,7 +27,11 @@ MISSING = "refused 19: there is no such file, or it cannot be opened"
 OTHER = "refused 19: a file of another kind, modulus or plaintext modulus"
 LENGTH = "refused 10: ciphertexts have the wrong length or dimension"
 TALLY = "refused 17: a tally, given or summed, is above 2^32"
+PLAINTEXT = "refused 7: the plaintext modulus is below 2"
 SHOPS = [f"shop_{i}" for i in range(1, 10)]
+# counts in cents (T-10), modulo t
+CENTS = 1000003
+MONEY = {name: [(1000 * x + 37 * i) % CENTS for i, x in enumerate(COUNTS[name])] for name in SHOPS}
 # seconds for one folder: an accepted one takes some hundredths, and refusing takes no longer than the bytes that are there
 LIMIT = 2
 
@@ -44,8 +48,8 @@ def tally(i, value):
 class Box:
     """A folder of files, and what the program writes about it."""
 
-    def __init__(self, program, files):
-        self.program, self.files = program, dict(files)
+    def __init__(self, program, files, *words):
+        self.command, self.files = [program, *words], dict(files)
 
     def change(self, name, how):
         self.files[name] = how(self.files[name])
@@ -61,7 +65,7 @@ class Box:
             for name, content in self.files.items():
                 Path(folder, name).write_bytes(content)
             start = time.monotonic()
-            run = subprocess.run([self.program], cwd=folder, stdout=subprocess.PIPE, stderr=subprocess.DEVNULL, timeout=60)
+            run = subprocess.run(self.command, cwd=folder, stdout=subprocess.PIPE, stderr=subprocess.DEVNULL, timeout=60)
             self.seconds = time.monotonic() - start
         assert run.returncode == 0, run.returncode
         return run.stdout.decode().splitlines()
@@ -76,8 +80,8 @@ def opened(lines):
     return [int(line.split(": ")[1]) for line in lines[at : at + 4]]
 
 
-def sums(names):
-    return [sum(COUNTS[name][i] for name in names) for i in range(4)]
+def sums(names, rows=COUNTS):
+    return [sum(rows[name][i] for name in names) for i in range(4)]
 
 
 def wide():
@@ -179,6 +183,24 @@ class Cases:
         b = self.box().drop(*[name for name in SHOPS if name in ("shop_1", "shop_2", "shop_8")])
         self.case("no row in order", b, [f"shop_9: {OTHER}", "rows added: 0", "no row was accepted, so there is nothing to send"])
 
+    def plaintext_moduli(self):
+        """t is the argument, or 1,024."""
+        stored = self.box().run()
+        self.case("t = 1,024 as the argument", Box(self.program, box(), "1024"), alike=stored)
+        money = box(CENTS, MONEY)
+        told = ["shop_1: accepted", f"shop_9: {OTHER}", "rows added: 3", "  casting 1: tally 9, marked good"]
+        total = [x % CENTS for x in sums(["shop_1", "shop_2", "shop_8"], MONEY)]
+        self.case("counts in cents", Box(self.program, money, str(CENTS)), told, total)
+        self.case("counts in cents, t left out", Box(self.program, money), [f"shop_1: {OTHER}", "rows added: 0"])
+        self.case("t = q", Box(self.program, money, str(BOX_MODULUS)), [f"shop_1: {OTHER}"])
+        large = Box(self.program, box(2**32 - 6, {name: [2**31] * 4 for name in SHOPS}), str(2**32 - 6))
+        self.case("t = q - 1: the mark says what it is worth", large, ["rows added: 3", "  casting 1: tally 9, not marked good"])
+        for word in ("0", "1", "", "x", "-2", "1024 ", "4294967296", "18446744073709552640", "10000000000000000000000"):
+            told = [f"shop_1: {OTHER}"]
+            self.case(f"t = '{word}'", Box(self.program, money, word), told)
+            headed = {name: number(32, int(word) if word in ("0", "1") else 0)(money[name]) for name in ("shop_1", "shop_2")}
+            self.case(f"t = '{word}' in the heads too", Box(self.program, {**money, **headed}, word), [f"shop_1: {PLAINTEXT}", f"shop_2: {PLAINTEXT}"])
+
 
 def main():
     cases = Cases(str(Path(sys.argv[1]).resolve()))
@@ -187,6 +209,7 @@ def main():
     cases.missing()
     cases.heads()
     cases.first_rows()
+    cases.plaintext_moduli()
     print(f"box_test: {cases.count - cases.failed} passed, {cases.failed} failed")
     sys.exit(1 if cases.failed else 0)
 

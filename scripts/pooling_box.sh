@@ -3,8 +3,8 @@
 #
 #   scripts/pooling_box.sh            runs the program on the files stored with it, some of them damaged on purpose, and prints what it
 #                                     writes; a few seconds, for the program is compiled without its proofs here
-#   scripts/pooling_box.sh FOLDER     proves and builds it (some minutes the first time) and runs it on other files: switching_key,
-#                                     group_secret, shop_1 .. shop_9. docs/FILES.md has their layout
+#   scripts/pooling_box.sh FOLDER [T] proves and builds it (some minutes the first time) and runs it on other files: switching_key,
+#                                     group_secret, shop_1 .. shop_9; counts are taken modulo T, 1024 where it is left out. docs/FILES.md has their layout
 set -eu
 # A relative path starts where the caller stands.
 folder=${1:-}
@@ -18,4 +18,4 @@ fi
 [ -d "$folder" ] || { echo "pooling_box: no folder '$folder'" >&2; exit 1; }
 program=$(scripts/program.sh pooling_box)
 cd "$folder"
-exec "$program"
+exec "$program" ${2:+"$2"}

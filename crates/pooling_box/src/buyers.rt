@@ -1,6 +1,7 @@
 // The buyers: they have the group's secret, and see only the switched total.
+use crate::agreed::PLACES;
+use crate::reasons;
 use crate::station::Sent;
-use crate::{PLACES, PLAINTEXT_MODULUS, reasons};
 use check_order::Refusal;
 use primus_lattice::LweDimension;
 use primus_lwe::LweDecryptionParameters;
@@ -23,11 +24,11 @@ fn print_totals(rt: &impl Print, counts: [u32; PLACES]) {
 }
 
 // Opens what was sent, under a secret that is in order.
-fn with_secret(h: Head, secret: &[u32], sent: &[u32]) -> Result<[u32; PLACES], Refusal> {
+fn with_secret(h: Head, t: u32, secret: &[u32], sent: &[u32]) -> Result<[u32; PLACES], Refusal> {
     let params = LweDecryptionParameters {
         dimension: LweDimension::try_new(h.n)?,
         modulus: h.modulus,
-        plaintext_modulus: PLAINTEXT_MODULUS,
+        plaintext_modulus: t,
     };
     let mut counts = [0; PLACES];
     decrypt_message_batch_to(params, secret, sent, &mut counts)?;
@@ -39,14 +40,14 @@ fn is_other(h: Head, modulus: Modulus) -> bool {
     h.kind != Kind::SecretKey || h.modulus != modulus
 }
 
-pub(crate) fn open(rt: &(impl Files + Print + Eprint), sent: Sent) {
+pub(crate) fn open(rt: &(impl Files + Print + Eprint), t: u32, sent: Sent) {
     let mut room = [0u32; 16368];
     let l = saved_files::load(rt, "group_secret", &mut room);
     if l.refusal.is_err() || is_other(l.head, sent.modulus) {
         reasons::told_file(rt, "group_secret", Err(Refusal::Unreadable), l.stored);
         return;
     }
-    match with_secret(l.head, l.words, sent.words) {
+    match with_secret(l.head, t, l.words, sent.words) {
         Ok(counts) => print_totals(rt, counts),
         Err(reason) => reasons::told(rt, "the opening", Err(reason)),
     }

@@ -2,20 +2,16 @@
 // the total to the buying group's key; the buyers open it. The box has no secret key: only `buyers` reads one.
 #![tactic(auto)]
 
+mod agreed;
 mod buyers;
 mod pool;
 mod reasons;
 mod station;
 
-// What was agreed on: counts are taken modulo t, and a row has a count for each of four castings. What bounds the shops'
-// errors is their tallies.
-pub(crate) const PLAINTEXT_MODULUS: u32 = 1024;
-
-pub(crate) const PLACES: usize = 4;
-
 fn main(rt: HostRuntime) {
+    let t = agreed::plaintext_modulus(&rt);
     let mut room = [0u32; 8196];
-    if let Some(sent) = station::run(&rt, &mut room) {
-        buyers::open(&rt, sent);
+    if let Some(sent) = station::run(&rt, t, &mut room) {
+        buyers::open(&rt, t, sent);
     }
 }

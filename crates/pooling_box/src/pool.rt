@@ -1,5 +1,6 @@
 // The total of the shops' rows, as the box collects it.
-use crate::{PLACES, PLAINTEXT_MODULUS, reasons};
+use crate::agreed::PLACES;
+use crate::reasons;
 use check_order::Refusal;
 use pooling::{LweDecryptionParameters, add_saved, begin_saved};
 use primus_lattice::LweTag;
@@ -33,7 +34,7 @@ impl Pool<'_> {
                 None => print!(rt; "  casting {}: no tally", i + 1),
                 Some(a) => print!(rt; "  casting {}: tally {a}", i + 1),
             };
-            match tag.is_good(self.params.modulus, PLAINTEXT_MODULUS) {
+            match tag.is_good(self.params.modulus, self.params.plaintext_modulus) {
                 Ok(good) => print_good(rt, good),
                 Err(reason) => reasons::refused(rt, reason),
             }

@@ -1,6 +1,7 @@
 // The box: it adds the shops' rows and switches the total. It holds the switching key and what came in, and no secret.
+use crate::agreed::PLACES;
 use crate::pool::Pool;
-use crate::{PLACES, PLAINTEXT_MODULUS, reasons};
+use crate::reasons;
 use check_order::Refusal;
 use key_switch::key_switch_batch_to;
 use key_switch_parameters::LweKeySwitchingParameters;
@@ -43,17 +44,13 @@ fn collect(rt: &(impl Files + Print + Eprint), pool: &mut Pool) {
 fn serve<'a>(
     rt: &(impl Files + Print + Eprint),
     params: LweKeySwitchingParameters,
-    modulus: Modulus,
+    agreed: LweDecryptionParameters,
     key: &[u32],
     total: &mut [u32],
     room: &'a mut [u32],
 ) -> Option<Sent<'a>> {
     let mut pool = Pool {
-        params: LweDecryptionParameters {
-            modulus,
-            dimension: params.input_dimension,
-            plaintext_modulus: PLAINTEXT_MODULUS,
-        },
+        params: agreed,
         total,
         tallies: [0; PLACES],
         rows: 0,
@@ -70,7 +67,7 @@ fn serve<'a>(
     }
     Some(Sent {
         words: room,
-        modulus,
+        modulus: agreed.modulus,
     })
 }
 
@@ -96,6 +93,7 @@ fn parameters(h: Head) -> Result<LweKeySwitchingParameters, Refusal> {
 fn with_file<'a>(
     rt: &(impl Files + Print + Eprint),
     h: Head,
+    t: u32,
     key: &[u32],
     room: &'a mut [u32],
 ) -> Option<Sent<'a>> {
@@ -109,16 +107,25 @@ fn with_file<'a>(
     let mut words = [0u32; 8196];
     let total = four_of(params.input_dimension, &mut words)?;
     let room = four_of(params.output_dimension, room)?;
-    serve(rt, params, h.modulus, key, total, room)
+    let agreed = LweDecryptionParameters {
+        modulus: h.modulus,
+        dimension: params.input_dimension,
+        plaintext_modulus: t,
+    };
+    serve(rt, params, agreed, key, total, room)
 }
 
 // The switched total goes into `room`.
-pub(crate) fn run<'a>(rt: &(impl Files + Print + Eprint), room: &'a mut [u32]) -> Option<Sent<'a>> {
+pub(crate) fn run<'a>(
+    rt: &(impl Files + Print + Eprint),
+    t: u32,
+    room: &'a mut [u32],
+) -> Option<Sent<'a>> {
     let mut key = [0u32; 16368];
     let l = saved_files::load(rt, "switching_key", &mut key);
     if l.refusal.is_err() {
         reasons::told_file(rt, "switching_key", l.refusal, l.stored);
         return None;
     }
-    with_file(rt, l.head, l.words, room)
+    with_file(rt, l.head, t, l.words, room)
 }
