@@ -6,4 +6,3 @@ pub mod Inputs
 pub mod Masks
 pub mod Cut
 pub mod Digits
-pub mod Retired
