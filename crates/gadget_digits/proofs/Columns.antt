@@ -4,7 +4,7 @@ use mathlib.Core.Path.{◌≡◌, refl, sym, ap, ap₂, ◌∙◌}
 use mathlib.Core.List.{List}
 use mathlib.Core.Logic.{◌≢◌}
 use Prim.Native.Nat.{ℕ, zero, suc, ◌+◌, ◌-◌, ◌*◌, ◌/◌, ◌%◌, ◌^◌, ◌≤◌, ◌<◌}
-use native.Mathlib.Nat.{mul-le-mul_right, eq_of_mul-eq-mul_right}
+use native.Mathlib.Nat.{eq_of_mul-eq-mul_right}
 use native.Mathlib.Numerals.{add-one}
 use native.Mathlib.Decide.{ℕ_discrete}
 use native.Mathlib.Omega.{arith}
@@ -21,9 +21,6 @@ use Rattle.gadget_digits.specs.Step.{window_of, step_of, decomposer_of}
 use Rattle.gadget_digits.specs.Column.{after, step_digit, Column}
 
 -- ---- one column
-
-pub place_below : (j n i L : ℕ) → j < L → i < n → j * n + i < L * n
-place_below j n i L h k = omega (arith, mul-le-mul_right {m = suc j} {n = L} n h)
 
 -- two places of one column, and a place of another column
 same_column : (j k n i : ℕ) → 0 < n → k ≢ j → k * n + i ≢ j * n + i

@@ -20,9 +20,6 @@ pub addend-most : (b : Bool) (q y : ℕ) → y ≤ q → addend_of b q y ≤ q
 addend-most true q y h = omega arith
 addend-most false q y h = h
 
-times_most : (a y q : ℕ) → y ≤ q → a * y ≤ a * q
-times_most a y q h = mul-le-mul_left a h
-
 -- the accumulator to come is as it was, so there is room
 module _ (q a : ℕ) (R acc₀ entry : List ℕ) (r : Roomy q a acc₀ entry) (acc : List ℕ) (k : ℕ) (f : Filled R acc₀ acc k) (h : k < length acc) where
   pub at_acc : k < length acc₀
@@ -32,7 +29,7 @@ module _ (q a : ℕ) (R acc₀ entry : List ℕ) (r : Roomy q a acc₀ entry) (a
   word_at = omega (arith, r.entries k (omega (arith, r.same, at_acc)))
 
   pub room_at : (y : ℕ) → y ≤ q → get_or acc k 0 + a * y < 2 ^ 64
-  room_at y m = omega (arith, room, times_most a y q m)
+  room_at y m = omega (arith, room, mul-le-mul_left a m)
     where
       room : get_or acc k 0 + a * q < 2 ^ 64
       room = rw (filled_word R acc₀ acc k f at_acc) (r.room k at_acc)
@@ -65,7 +62,7 @@ module _ (q half d : ℕ) (acc entry : List ℕ) (l : Spare q half (half * q) d 
       record {
         same = ap length e ∙ length_zip _ acc entry l.same;
         word = λ c k. rw (at c k) (cong_less q d (get_or acc c 0) (get_or entry c 0) (word c k));
-        most = λ c k. rw (at c k) (omega (arith, times_most d (q - get_or entry c 0) q (omega arith), mul-le-mul_right {m = d} {n = half} q (omega arith)));
+        most = λ c k. rw (at c k) (omega (arith, mul-le-mul_left {m = q - get_or entry c 0} {n = q} d (omega arith), mul-le-mul_right {m = d} {n = half} q (omega arith)));
       }
     where
       at : (c : ℕ) → c < length acc → get_or acc' c 0 ≡ get_or acc c 0 + d * (q - get_or entry c 0)
@@ -76,7 +73,7 @@ module _ (q half d : ℕ) (acc entry : List ℕ) (l : Spare q half (half * q) d 
       record {
         same = ap length e ∙ length_zip _ acc entry l.same;
         word = λ c k. rw (at c k) (cong_more q d (get_or acc c 0) (get_or entry c 0) (omega (arith, l.digit.word)));
-        most = λ c k. rw (at c k) (omega (arith, times_most (q - d) (get_or entry c 0) q (word c k), mul-le-mul_right {m = q - d} {n = half} q (l.digit.near h)));
+        most = λ c k. rw (at c k) (omega (arith, mul-le-mul_left (q - d) (word c k), mul-le-mul_right {m = q - d} {n = half} q (l.digit.near h)));
       }
     where
       at : (c : ℕ) → c < length acc → get_or acc' c 0 ≡ get_or acc c 0 + (q - d) * get_or entry c 0

@@ -19,7 +19,7 @@ use Rattle.primus_reduce.specs.Ring.{size_of}
 use Rattle.gadget_constants.specs.declared.prepared.PreparedBasis.{PreparedBasis}
 use Rattle.gadget_constants.specs.Prepared.{basis_in}
 use Rattle.key_switch_tile.specs.Tile.{Shaped, begun, Reached, Fits, Grown}
-use Rattle.key_switch_tile.proofs.Lanes.{in_run}
+use lib.Arith.{digits_lt}
 use Rattle.key_switch_tile.proofs.Walks.{q_pos, q_most, twice, levels-most, start-most, reached_start}
 use Rattle.key_switch_accumulate.specs.Rows.{Kept}
 
@@ -44,7 +44,7 @@ module _ {p : PreparedBasis} {n m rows : ℕ} {input key : List ℕ} (sh : Shape
       is_batch (basis_in p) n m key rows input out (ap length e ∙ length-map acc (λ x. x % size_of p.modulus) ∙ r.sized)
       (λ t c h k.
       ap (λ o. get_or o (t * (m + 1) + c) 0) e
-      ∙ map_at (λ x. x % size_of p.modulus) acc (t * (m + 1) + c) (omega (arith, r.sized, in_run (m + 1) rows t c h k))
+      ∙ map_at (λ x. x % size_of p.modulus) acc (t * (m + 1) + c) (omega (arith, r.sized, digits_lt h k))
       ∙ residue_cong (q_pos sh) (r.word t c h k))
 
   pub reduced : {q : ℕ} → size_of p.modulus ≡ q → {acc out : List ℕ} → Reached p n m rows n input key acc → out ≡ map (λ x. x % q) acc → out ≡ switched_batch (basis_in p) n m key rows input
@@ -84,7 +84,7 @@ module _ {p : PreparedBasis} {n m rows : ℕ} {input key : List ℕ} (sh : Shape
 
       module _ (inside : i < n) {r : ℕ} {acc₁ : List ℕ} (kp : Kept q ceiling limit acc r acc₁) where
         in_acc : (t c : ℕ) → t < rows → c < m + 1 → t * (m + 1) + c < length acc
-        in_acc t c u v = omega (arith, g.reached.sized, in_run (m + 1) rows t c u v)
+        in_acc t c u v = omega (arith, g.reached.sized, digits_lt u v)
 
         most₁ : (t c : ℕ) → t < rows → c < m + 1 → get_or acc₁ (t * (m + 1) + c) 0 ≤ r
         most₁ t c u v = kp.most (t * (m + 1) + c) (in_acc t c u v) (g.most t c u v)

@@ -6,7 +6,6 @@ use Prim.Native.Nat.{ℕ, ◌+◌, ◌-◌, ◌*◌, ◌<◌, ◌≤◌}
 use native.Mathlib.Omega.{arith}
 use native.Mathlib.Decide.{ℕ_discrete}
 use borrow.Author.Tests.{eq-eqb, ne_eqb}
-use lib.Arith.{digits_lt}
 use lib.Dec.{eqb}
 use lib.ListN.{length, get_or, set, take, drop, replicate, length-drop, length-set, length-replicate}
 use lib.Seq.{length-take-le, get_or-set_same, get_or-set_other, ext_get_or}
@@ -21,10 +20,6 @@ use Rattle.gadget_digits.specs.declared.SignedDecomposer.{SignedDecomposer}
 use Rattle.gadget_constants.specs.declared.prepared.PreparedBasis.{PreparedBasis}
 use Rattle.gadget_constants.specs.Word.{decomposer_from}
 use Rattle.key_switch_tile.specs.Tile.{tile, lane, Lanes}
-
--- word k of row t lies in the run
-pub in_run : (w rows t k : ℕ) → t < rows → k < w → t * w + k < rows * w
-in_run w rows t k h l = digits_lt h l
 
 -- the lanes below t are open
 pub record Opening (p : PreparedBasis) (n rows i : ℕ) (input : List ℕ) (lanes : List SignedDecomposer) (t : ℕ) : Type 0 where

@@ -13,14 +13,10 @@ use Rattle.scheme.specs.Numbers.{pick, residue, sum_to}
 use Rattle.scheme.specs.Lwe.{words, rotated, packed_phase}
 use Rattle.scheme.proofs.Residue.{cong_refl, cong_add, residue_cong}
 use Rattle.scheme.proofs.Sums.{sum_ext}
-use Rattle.scheme.proofs.Lists.{is-tabulate}
 use Rattle.scheme.proofs.Lwe.{cong_sub}
 use Rattle.primus_reduce.specs.Ring.{modulo}
 use Rattle.primus_reduce.specs.Dot.{dot}
 use Rattle.lwe_secret_key.proofs.Laws.{modulo_stands}
-
--- a run of words is a table
-pub ruleset tables = (is-tabulate)
 
 turned : (i j : ℕ) → i + j ≡ j + i
 turned i j = omega arith

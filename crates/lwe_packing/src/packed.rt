@@ -57,7 +57,7 @@ impl<'a> Rotation<'a> {
 }
 
 // The phase of each body. The input has as many mask words as the key has.
-#[tactic(auto, using(crate::proofs::Laws::tables))]
+#[tactic(auto, using(scheme::proofs::Lists::is_tabulate))]
 pub fn phases(out: &mut [u32], input: &[u32], secret: &[u32], ring: Ring)
     requires { (length out.old ≤ length secret.now)
         × (length input.now ≡ length secret.now + length out.old) }
@@ -72,7 +72,7 @@ pub fn phases(out: &mut [u32], input: &[u32], secret: &[u32], ring: Ring)
 }
 
 // A mask, and then the bodies, which hold their plaintexts.
-#[tactic(auto, using(crate::proofs::Laws::tables), unfolding(scheme::specs::Lwe::packed))]
+#[tactic(auto, using(scheme::proofs::Lists::is_tabulate), unfolding(scheme::specs::Lwe::packed))]
 pub fn write_packed(out: &mut [u32], mask: &[u32], secret: &[u32], errors: &[i32], ring: Ring)
     requires { let n = length mask.now in
         (length secret.now ≡ n) × (n ≤ length out.old) × (length out.old ≤ n + n) }

@@ -15,7 +15,7 @@ use Rattle.scheme.specs.Numbers.{pick, residue, tabulate}
 use Rattle.scheme.specs.Lwe.{signed}
 use Rattle.scheme.specs.Switch.{Below}
 use Rattle.scheme.proofs.Residue.{residue_lt, cong_add, cong_of_eq, cong_trans, residue_cong}
-use Rattle.scheme.proofs.Lists.{is-tabulate, length-tabulate, get_d_tabulate}
+use Rattle.scheme.proofs.Lists.{is_tabulate, length-tabulate, get_d_tabulate}
 use Rattle.scheme.proofs.InPlace.{length_zip, zip_at}
 use Rattle.scheme.proofs.Rows.{row_within, part_at, part_length}
 use Rattle.scheme.proofs.Lwe.{stands}
@@ -55,7 +55,7 @@ module _ (q n k : ℕ) (f : ℕ → ℤ) (h : 0 < q) (error : ℕ) (e : error �
 -- the errors as words, and p added to the last
 pub started : (q p w : ℕ) (f : ℕ → ℤ) (xs : List ℕ) (v : ℕ) → 0 < q → 0 < w → length xs ≡ w → ((k : ℕ) → k < w → get_or xs k 0 ≡ modulo q (f k))
     → v ≡ modulo q (pos (get_or xs (w - 1) 0) +ℤ pos p) → set xs (w - 1) v ≡ tabulate w (start_word q (w - 1) f p)
-started q p w f xs v h some size at ev = is-tabulate w _ _ (length-set xs (w - 1) v ∙ size) (λ k l. go k l (ℕ_discrete k (w - 1)))
+started q p w f xs v h some size at ev = is_tabulate w _ _ (length-set xs (w - 1) v ∙ size) (λ k l. go k l (ℕ_discrete k (w - 1)))
   where
     go : (k : ℕ) → k < w → Dec (k ≡ w - 1) → get_or (set xs (w - 1) v) k 0 ≡ start_word q (w - 1) f p k
     go k l (yes z) =

@@ -10,7 +10,7 @@ use Rattle.scheme.specs.Lwe.{extracted}
 use Rattle.scheme.specs.Checks.{refusal, packed_fails}
 use Rattle.scheme.proofs.Checks.{modulus_ok, length_ok, packed_ok}
 use Rattle.scheme.proofs.Extract.{mask_word}
-use Rattle.scheme.proofs.Lists.{is-tabulate}
+use Rattle.scheme.proofs.Lists.{is_tabulate}
 use Rattle.scheme.proofs.Order.{passed, neither}
 use Rattle.primus_reduce.specs.Ring.{meant, size_of, modulo}
 use Rattle.primus_reduce.specs.declared.modulus.Modulus.{Modulus}
@@ -24,7 +24,7 @@ turned : (q n i : ℕ) (x s : List ℕ) → 0 < q → i < n → n ≤ length x �
     → ((k : ℕ) → k < i → get_or s k 0 ≡ modulo q (neg_ℤ (pos (get_or (drop (n - i) (take n x)) k 0))))
     → s ++ take (n - i) (take n x) ≡ tabulate n (mask_word q n x i)
 turned q n i x s h l w e is =
-    is-tabulate n (mask_word q n x i) _ (omega (arith, length-append s (take (n - i) (take n x)), length-take-le (n - i) (take n x) (omega (arith, front)), front)) word
+    is_tabulate n (mask_word q n x i) _ (omega (arith, length-append s (take (n - i) (take n x)), length-take-le (n - i) (take n x) (omega (arith, front)), front)) word
   where
     front : length (take n x) ≡ n
     front = length-take-le n x w

@@ -13,7 +13,7 @@ use primus_reduce::Modulus;
 
 // The words of a file from word `at` on, as many as the buffer holds.
 // Stays beside `saved::words_to`: a total that begins is promised the words of a file, `file_words`.
-#[tactic(auto, using(saved::proofs::Laws::tabled))]
+#[tactic(auto, using(scheme::proofs::Lists::is_tabulate))]
 fn words_from(out: &mut [u32], bytes: &[u8], at: usize)
     requires { at + length out.old < 2 ^ 64 }
     ensures { out.new ≡ words_from bytes.now at (length out.old) }

@@ -30,7 +30,7 @@ pub fn saved_refused(places: usize, bytes: &[u8]) -> bool
 }
 
 // The tallies of the file, as those of a total.
-#[tactic(auto, using(saved::proofs::Laws::tabled))]
+#[tactic(auto, using(scheme::proofs::Lists::is_tabulate))]
 pub fn write_tallies(tallies: &mut [u64], bytes: &[u8])
     ensures { tallies.new ≡ saved_tallies (length tallies.old) bytes.now }
 {

@@ -12,7 +12,7 @@ use borrow.Author.Tests.{lt-leb, le-leb, ltb-true, ltb-false}
 use Rattle.scheme.specs.Checks.{row, refusal, all_of, length_fails, words_fail, Writes}
 use Rattle.scheme.proofs.Checks.{length_ok, word_ok, words_ok}
 use Rattle.scheme.proofs.Order.{passed, passed_part, writes_by}
-use Rattle.scheme.proofs.Lists.{is-tabulate, length_runs, get_or_runs}
+use Rattle.scheme.proofs.Lists.{is_tabulate, length_runs, get_or_runs}
 use Rattle.scheme.specs.Digits.{digit, stored, digits_of, runs_of}
 use Rattle.primus_reduce.specs.Ring.{size_of}
 use Rattle.gadget_constants.specs.declared.prepared.PreparedBasis.{PreparedBasis}
@@ -68,7 +68,7 @@ module _ (b : ApproxSignedBasis) (a : ℕ) where
 
   one_run : runs_of (basis b) (a ∷ []) ≡ digits_of (basis b) a
   one_run =
-      is-tabulate (basis b).levels _ (runs_of (basis b) (a ∷ []))
+      is_tabulate (basis b).levels _ (runs_of (basis b) (a ∷ []))
       (length_runs (basis b) (a ∷ []) 0 (basis b).levels ∙ mul-one (basis b).levels)
       (λ j h. ap (λ n. get_or (runs_of (basis b) (a ∷ [])) n 0) (plain j) ∙ get_or_runs (basis b) (a ∷ []) 0 (basis b).levels j 0 h (omega arith)
       ∙ ap (λ n. stored (basis b).modulus (digit (basis b) a n)) (zero-add j))

@@ -8,11 +8,8 @@ use native.Mathlib.Omega.{arith}
 use borrow.Author.Tests.{eqb-true, not-false}
 use Rattle.scheme.specs.Checks.{length_fails, batch_fails}
 use Rattle.scheme.proofs.Checks.{length_ok}
-use Rattle.scheme.proofs.Lists.{is-tabulate}
 use Rattle.scheme.proofs.Order.{neither}
 use Rattle.lwe_secret_key.specs.Runs.{Run}
-
-pub ruleset tables = (is-tabulate)
 
 -- 9, 11 and 12 of an encryption: a mask and a row for each message
 pub run_ok : (key room errors masks n count : ℕ) → length_fails key n ≡ false → length_fails room (count * (n + 1)) ≡ false

@@ -77,7 +77,7 @@ fn row_phase(input: &[u32], secret: &[u32], i: usize, ring: Ring) -> u32
     LweSecretKeyRef::Encoded(secret).phase(&input[at..at + (n + 1)], ring)
 }
 
-#[tactic(auto, using(crate::proofs::Laws::tables))]
+#[tactic(auto, using(scheme::proofs::Lists::is_tabulate))]
 fn row_phases(out: &mut [u32], input: &[u32], secret: &[u32], ring: Ring)
     requires { length input.now ≡ length out.old * (length secret.now + 1) }
     ensures { out.new ≡ tabulate (length out.old)

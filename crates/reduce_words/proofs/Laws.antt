@@ -50,9 +50,6 @@ power_wraps w q s e = ap (λ n. s % 2 ^ w % n) (sym p) ∙ ap (λ n. s % 2 ^ n %
 pub mod-is : (q k r n : ℕ) → r < q → n ≡ q * k + r → n % q ≡ r
 mod-is q k r n h e = ap (λ m. m % q) (omega arith) ∙ digits_mod k h
 
-mod-small : (q n : ℕ) → n < q → n % q ≡ n
-mod-small q n h = mod-eq_of_lt h
-
 pub product-most : (a b : ℕ) → a < 2 ^ 32 → b < 2 ^ 32 → a * b ≤ 4294967295 * 4294967295
 product-most a b h k = mul-le-mul {n₁ = a} {m₁ = b} {n₂ = 4294967295} {m₂ = 4294967295} (omega arith) (omega arith)
 

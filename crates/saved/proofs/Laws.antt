@@ -5,8 +5,6 @@ use Rattle.std.proofs.Common.{◌≡◌, ◌+◌, ◌*◌, ◌-◌, ◌^◌, ◌
 use Rattle.std.proofs.Math.ListN.{get_or-eq_default}
 use Rattle.std.proofs.lemmas.Grind.{common_steps}
 use Rattle.std.specs.Int.{w32, cast_signed}
-use Rattle.scheme.specs.Numbers.{tabulate}
-use Rattle.scheme.proofs.Lists.{is-tabulate}
 use Rattle.little_endian.specs.Bytes.{word32, word64}
 use Rattle.saved.specs.Layout.{signed_word}
 
@@ -31,6 +29,3 @@ number_capped s base i h =
 
 pub same_bits : (w : ℕ) → w < 2 ^ 32 → cast_signed w32 w ≡ signed_word w
 same_bits w h = grind (arith, common_steps)
-
-pub tabled : (n : ℕ) (f : ℕ → ℕ) (xs : List ℕ) → length xs ≡ n → ((i : ℕ) → i < n → get_or xs i 0 ≡ f i) → xs ≡ tabulate n f
-tabled = is-tabulate

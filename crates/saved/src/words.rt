@@ -14,7 +14,7 @@ pub fn word_at(bytes: &[u8], i: usize) -> u32
 }
 
 // The first words, as many as the buffer holds.
-#[tactic(auto, using(crate::proofs::Laws::tabled))]
+#[tactic(auto, using(scheme::proofs::Lists::is_tabulate))]
 pub fn words_to(bytes: &[u8], out: &mut [u32])
     ensures { out.new ≡ file_words bytes.now (length out.old) }
 {

@@ -24,7 +24,7 @@ use Rattle.scheme.specs.Checks.{refusal, first_in, length_fails, word_fails, bat
 use Rattle.scheme.proofs.Residue.{residue_cong, word-residue}
 use Rattle.scheme.proofs.Checks.{length_ok, words_ok, magnitudes_ok, message_ok, error_limit_ok}
 use Rattle.scheme.proofs.Order.{passed, neither}
-use Rattle.scheme.proofs.Lists.{is-tabulate, tabulate_ext}
+use Rattle.scheme.proofs.Lists.{is_tabulate, tabulate_ext}
 use Rattle.scheme.proofs.Rows.{rows-length, rows-below, part_length, part_below}
 use Rattle.scheme.proofs.Lwe.{opens_fresh}
 use Rattle.scheme.proofs.Public.{row_mask, row-encrypted, encrypted-row}
@@ -230,7 +230,7 @@ module _ (P : LweParameters) (g : PlaintextEmbedding) (key : Key) (masks : List 
             ∙ ap (λ k. tabulate k (λ i. decode (size_of P.modulus) P.plaintext_modulus (batch_phase (size_of P.modulus) P.dimension.0 key after i)))
             (count-is (length after) P.dimension.0 (length xs) (rw w.1 f.0)).0
             ∙ tabulate_ext (length xs) _ (λ i. get_or xs i 0) (λ i k. rw w.1 (row-decoded (length before) w.0 h i k))
-            ∙ sym (is-tabulate (length xs) (λ i. get_or xs i 0) xs refl (λ i k. refl)),
+            ∙ sym (is_tabulate (length xs) (λ i. get_or xs i 0) xs refl (λ i k. refl)),
       )
 
   pub opens_batch_marked : {before after blank out : List ℕ} {tag : LweTag} {r : ℕ} → EncryptsBatch P g key masks es xs before (Ok tag) after
