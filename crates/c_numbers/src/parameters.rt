@@ -14,6 +14,7 @@ use primus_encoding::{PlaintextEmbedding, RoundedCodec};
 use primus_lattice::LweDimension;
 use primus_reduce::Modulus;
 
+// Stays: no From: what 0 and another number mean is C's alone; a Rust caller names the embedding.
 pub fn embedding_for(centered: u32) -> PlaintextEmbedding
     ensures { result ≡ embedding_for centered }
 {

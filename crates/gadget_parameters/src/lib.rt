@@ -34,6 +34,7 @@ impl DecompositionBaseLog {
     pub const MAX: u32 = 31;
 
     // Refuses by 1.
+    // Stays: try_new, as in the Rust: a TryFrom beside it would be a second way to the same.
     #[tactic(auto, using(check_order::proofs::Answers::served))]
     pub fn try_new(log_basis: u32) -> Result<DecompositionBaseLog, Refusal>
         ensures { result ≡ base_log_answer log_basis }
@@ -138,7 +139,7 @@ impl DecompositionLevelCount {
     }
 }
 
-// 1 to 3 and 5, each in its field.
+// 1 to 3 and 5, each in its field. Stays: three numbers: the struct of them, a basis, is made above.
 pub fn basis_sizes(
     modulus: Modulus,
     log_basis: DecompositionBaseLog,

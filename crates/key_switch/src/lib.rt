@@ -1,4 +1,5 @@
 // LWE key switching over words of 32 bits: (0, b) minus the sum of digit(i, j) × entry(i, j) modulo q.
+// Stays: each lent buffer is a parameter of its own, as in the Rust and in C; what refuses a call takes them as they come.
 #![tactic(auto)]
 
 ghost use Rattle.std.specs.Prelude.{◌≡◌, length};

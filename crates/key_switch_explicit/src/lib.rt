@@ -67,6 +67,7 @@ fn walk(acc: &mut [u64], tile: Tile, q: Divisor)
 }
 
 // Switches the rows; acc is room for their accumulators.
+// Stays beside that of key_switch_native, whose words are their own accumulators.
 pub fn switch_tile(acc: &mut [u64], out: &mut [u32], tile: Tile, q: Divisor)
     requires { (tile.shape.basis.modulus ≡ Explicit q.q) × (length acc.old ≡ tile.rows * (tile.shape.m + 1))
         × (length out.old ≡ tile.rows * (tile.shape.m + 1)) }

@@ -58,6 +58,7 @@ impl Kernel for NativeKernel {
 }
 
 // Switches the rows; the output is its own accumulator.
+// Stays beside that of key_switch_explicit, which needs room for its sums and keeps it from running over.
 pub fn switch_tile(out: &mut [u32], tile: Tile)
     requires { (tile.shape.basis.modulus ≡ Native) × (length out.old ≡ tile.rows * (tile.shape.m + 1)) }
     ensures { out.new ≡ switched_tile tile.entry }

@@ -22,6 +22,7 @@ pub struct Shape {
 }
 
 // The accumulators of a modulus, and how a row of them loses a multiple of an entry.
+// Stays: row, entry and digit, what one product is of: a struct of them would be taken apart in its only line.
 pub trait Kernel {
     type Word;
 

@@ -91,6 +91,7 @@ impl LwePhaseParameters {
     }
 
     // Those, and 7 and 8 where the call takes a plaintext modulus.
+    // Stays: the two set as in `Moduli::judge` and for a mark: each judges something else beside them.
     pub fn sizes_with(self, plaintext_modulus: Option<u32>) -> Sizes
         ensures { JudgesSizes (judged_rows plaintext_modulus self) result }
     {
@@ -123,6 +124,7 @@ impl LweEncryptionParameters {
     }
 
     // Refuses by 2, 6, 13.
+    // Stays: a try_new for each kind, as in the Rust: its fields are the parameters, and TryFrom takes one value.
     pub fn try_new(
         dimension: LweDimension,
         modulus: Modulus,
@@ -152,6 +154,7 @@ impl LweParameters {
     }
 
     // Refuses by 2, 6, 7, 8, 13.
+    // Stays: a try_new for each kind, as in the Rust: its fields are the parameters, and TryFrom takes one value.
     pub fn try_new(
         dimension: LweDimension,
         modulus: Modulus,

@@ -20,7 +20,7 @@ fn word_refused(key: LweSecretKeyRef, modulus: Modulus, mask: &[u32], plaintext:
     key.refused_with(modulus, mask) | checks::word_refused(modulus, plaintext)
 }
 
-// What refuses an encryption of an encoded plaintext.
+// What refuses an encryption of an encoded plaintext. Stays beside that of a message: other parameters, and no message to judge.
 pub fn encrypt_refusal(
     params: LweEncryptionParameters,
     key: LweSecretKeyRef,

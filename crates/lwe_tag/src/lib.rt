@@ -36,7 +36,7 @@ impl From<LweTag> for u64 {
     }
 }
 
-// The tally that one number stands for.
+// The tally that one number stands for. Stays: no From, here and below: both types are std's.
 fn tally_from_number(number: u64) -> Option<u64>
     ensures { result ≡ tally_for number }
 {
@@ -149,6 +149,7 @@ fn mark_refusal(tag: LweTag, modulus: Modulus, t: u32) -> Result<(), Refusal>
 impl LweTag {
     // The tag of saved data: the tally is the sender's word, which nothing here can check against the words. Any number is taken;
     // the calls judge it by 17. Encryption gives E.
+    // Stays: a name, no From: that the number is a tally has to be said.
     pub fn with_tally(tally: u64) -> LweTag
         ensures { result ≡ record { tally = tally } }
     {

@@ -12,7 +12,7 @@ use primus_lattice::{LweDimension, add_assign};
 use primus_reduce::Modulus;
 
 // The words of a file from word `at` on, as many as the buffer holds.
-// Stays beside `saved::words_to`: a total that begins is promised the words of a file, `file_words`.
+// Stays beside `saved::words_to`, which begins at word 0 and whose promise is the words of a file; `at` is a place and no length.
 #[tactic(auto, using(scheme::proofs::Lists::is_tabulate))]
 fn words_from(out: &mut [u32], bytes: &[u8], at: usize)
     requires { at + length out.old < 2 ^ 64 }
@@ -24,6 +24,7 @@ fn words_from(out: &mut [u32], bytes: &[u8], at: usize)
 }
 
 // Adds ciphertext i of a file to that of a total, in its place: the number of the sum's tag.
+// Stays: a tag as its number, as a total lends its tallies; i, a place and no length; and q and n alone, since a sum takes no t.
 pub fn add_row(
     total: &mut [u32],
     number: u64,

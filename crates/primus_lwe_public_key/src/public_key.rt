@@ -65,6 +65,7 @@ fn lent_refused(error_limit: u32, errors: &[i32], coefficients: &[i32]) -> bool
     checks::coefficients_refused(coefficients) | checks::errors_refused(error_limit, errors)
 }
 
+// Stays beside that of a message: other parameters, and the plaintext is judged with the words.
 fn public_refusal(
     params: LweEncryptionParameters,
     key: &[u32],
