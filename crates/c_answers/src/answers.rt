@@ -6,7 +6,7 @@ ghost use Rattle.c_answers.specs.Service.{outcome_of, refused_number, word_numbe
 use check_order::Refusal;
 use lwe_tag::LweTag;
 
-// 0 and the tag of each ciphertext that was written; or the number of the first refusal, and no tally.
+// 0 and the tag of each ciphertext that was written; or the number of the first refusal, and no tally. Stays: no Result: C reads both.
 #[repr(C)]
 #[derive(Clone, Copy)]
 pub struct LweOutcome {
@@ -29,7 +29,7 @@ impl From<Result<LweTag, Refusal>> for LweOutcome {
 }
 
 // 0, or the refusal's number.
-// Stays: an answer as a number: C has numbers alone.
+// Stays: an answer as a number, here and below: C has numbers alone.
 pub fn code(answer: Result<(), Refusal>) -> u32
     ensures { result ≡ code_of answer }
 {

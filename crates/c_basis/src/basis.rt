@@ -1,4 +1,4 @@
-// The basis and a reading, written as rows of numbers.
+// The basis and a reading, written as rows of numbers. Stays: by place, no struct: so they stand in C's arrays.
 ghost use Rattle.std.specs.Prelude.{◌≡◌, length};
 ghost use Rattle.scheme.specs.Checks.{refusal};
 ghost use Rattle.check_order.specs.Answer.{code_of};

@@ -1,4 +1,4 @@
-// The codec in one number.
+// The codec in one number. Stays below the exports that pass it on: codec_vectors calls it, and no program can call a static library.
 ghost use Rattle.std.specs.Prelude.{◌≡◌};
 ghost use Rattle.c_numbers.specs.Service.{decode_number, encode_number};
 

@@ -19,7 +19,7 @@ fn dimension_sizes(n: usize) -> Sizes
     s
 }
 
-// 6.
+// 6. Stays beside `LweDimension::try_new`: with the sizes that packed words need too, it is one line.
 fn dimension_refusal(n: usize) -> Result<(), Refusal>
     ensures { code_of result ≡ refusal (dimension_rows n) }
 {

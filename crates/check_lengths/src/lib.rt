@@ -1,4 +1,4 @@
-// Checks of lengths, each exact for every input.
+// Checks of lengths, each exact for every input. Stays: numbers alone: a length and what it is compared with make no struct.
 #![tactic(auto)]
 
 ghost use Rattle.std.specs.Prelude.{◌≡◌, ◌||◌, ◌+◌, ◌*◌, ◌/◌};

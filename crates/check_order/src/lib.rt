@@ -10,7 +10,7 @@ mod refusal;
 
 pub use refusal::Refusal;
 
-// Stays: flags, no Results: each condition is judged before the order says which counts.
+// Stays: flags, no Results: a call sets them as it goes, 13 of its parameters before 9 of its key, and the order says which counts.
 
 // Numbers and lengths.
 #[derive(Clone, Copy)]
@@ -49,6 +49,7 @@ fn refuse(fails: bool, by: Refusal) -> Result<(), Refusal>
 }
 
 impl Sizes {
+    // Stays: a const, no Default: what each flag begins as stands in the next lines, with no call between.
     pub const NONE: Sizes = Sizes {
         base_log: false,
         modulus: false,
@@ -85,6 +86,7 @@ impl Sizes {
 }
 
 impl Values {
+    // Stays: a const, as that of the sizes.
     pub const NONE: Values = Values {
         word: false,
         error: false,

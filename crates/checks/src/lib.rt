@@ -55,7 +55,7 @@ pub fn word_refused(q: Modulus, x: u32) -> bool
 }
 
 // No early exit: the loop without one runs four words at a time.
-// Stays: a loop beside `any_outside`: 2,048 words take 0.3 µs compared in 32 bits, 0.9 µs in one generic loop of 64 bits.
+// Stays: a loop beside `any_outside`: 2,048 words take 0.3 µs in 32 bits, as in the release before, and 0.9 µs in one generic loop of 64.
 #[tactic(auto, using(crate::proofs::Laws::words_any))]
 fn any_refused(s: &[u32], q: u32) -> bool
     ensures { result ≡ words_fail q s.now }

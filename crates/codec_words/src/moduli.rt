@@ -95,7 +95,7 @@ impl Moduli {
         Modulus::Explicit(self.t).reduce(switch_value(self.modulus.size(), self.t as u64, value))
     }
 
-    // decode(p) of each word, in its place.
+    // decode(p) of each word, in its place. Stays beside the loop of primus_encoding, which is over what a kind of coding makes.
     #[tactic(auto, using(scheme::proofs::InPlace::filled_start, scheme::proofs::InPlace::filled_end, crate::proofs::Laws::mapped_length))]
     pub fn decode_each(self, words: &mut [u32])
         ensures { words.new ≡ map (decode (size_of self.modulus) self.t) words.old }

@@ -9,7 +9,7 @@ ghost use Rattle.gadget_constants.specs.Prepared.{Narrow, wrap_at, Ready, prepar
 use primus_reduce::Modulus;
 
 // A basis with its constants, prepared once for many words: q, base log, L, d, T, 2^k − q and q − B.
-// Stays: no ghost field says `Ready`: `init_value_carry` and `decomposer` are promised of any constants, whether or not a number applies.
+// Stays: no ghost field says `Ready`: the fields are open, and what is made of a word is promised of any constants that a user sets.
 #[derive(Clone, Copy)]
 pub struct PreparedBasis {
     pub modulus: Modulus,
@@ -61,6 +61,7 @@ pub fn error_bound(d: u32) -> u32
 }
 
 // T = P × 2^d + max(H, 1), with P = (B/2 − 1)(B^L − 1)/(B − 1).
+// Stays: base log, L and d alone, here and below: the struct of them, PreparedBasis, is what the last step makes.
 fn wrap_threshold(log: u32, levels: u32, d: u32) -> u32
     requires { Narrow log levels d }
     ensures { result ≡ wrap_at log levels d }
@@ -72,6 +73,7 @@ fn wrap_threshold(log: u32, levels: u32, d: u32) -> u32
 }
 
 // The constants of a basis that passes 1 to 3 and 5.
+// Stays: a requires, here and in what calls it: the type of a judged basis is what this makes, and no other step asks that it is judged.
 pub fn prepare(modulus: Modulus, log: u32, levels: usize) -> PreparedBasis
     requires { refusal (basis_rows 32 (meant modulus) log levels) ≡ 0 }
     ensures { Ready result × (result ≡ prepared_of modulus log levels) }
@@ -91,7 +93,7 @@ pub fn prepare(modulus: Modulus, log: u32, levels: usize) -> PreparedBasis
     }
 }
 
-// The weights 2^d × B^j for j below L, as words; 0 above.
+// The weights 2^d × B^j for j below L, as words; 0 above. Stays: an array, with no heap: no basis has more than 16.
 pub fn scalars_from(d: u32, log: u32, levels: usize) -> [u32; 16]
     ensures { result ≡ tabulate 16 (scalar_at d log levels) }
 {

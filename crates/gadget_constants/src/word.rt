@@ -100,6 +100,7 @@ fn lifted_by(a: u32, threshold: u32, q: u64) -> u64
 }
 
 // ε is the dropped part of the adjusted word plus H, less H; the reading is a' − ε.
+// Stays: no method, nor `write_columns`: a user may hold a PreparedBasis, and nothing that a user can call has a requires.
 #[tactic(auto, using(crate::proofs::Constants::dropped_most))]
 pub fn read(p: PreparedBasis, a: u32) -> Reading
     requires { Ready p × (a < size_of p.modulus) }

@@ -21,7 +21,7 @@ pub struct SignedDecomposer {
 #[derive(Clone, Copy)]
 pub struct Step {
     pub digit: u32,
-    // Stays: a carry into the next window: the value holds either way.
+    // Stays: the carry out of this level, as the Rust hands it out: the digit holds either way.
     pub carry: bool,
     pub next: SignedDecomposer,
 }
@@ -53,7 +53,7 @@ fn window(x: u32, log: u32, carry: bool) -> u64
 
 impl SignedDecomposer {
     // One level: a window below B/2 is its digit. From B/2 on it stands for B less, stored as q − B more,
-    // with a carry; at B the digit is 0.
+    // with a carry; at B the digit is 0. Stays: a step that hands on the next, no Iterator: a lane of a tile is kept as a value between levels.
     #[tactic(auto, using(crate::proofs::Steps::step_small, crate::proofs::Steps::step_top, crate::proofs::Steps::step_large))]
     pub fn step(self) -> Step
         ensures { result ≡ step_of self }

@@ -92,6 +92,7 @@ impl DecompositionBaseLog {
 }
 
 impl DecompositionLevelCount {
+    // Stays: `new` and `get`, no From: the Rust's names.
     pub fn new(level_count: usize) -> DecompositionLevelCount
         ensures { result.0 ≡ level_count }
     {
@@ -139,7 +140,7 @@ impl DecompositionLevelCount {
     }
 }
 
-// 1 to 3 and 5, each in its field. Stays: three numbers: the struct of them, a basis, is made above.
+// 1 to 3 and 5, each in its field. Stays: three numbers: the struct of them, ApproxSignedBasis, is made above this crate.
 pub fn basis_sizes(
     modulus: Modulus,
     log_basis: DecompositionBaseLog,

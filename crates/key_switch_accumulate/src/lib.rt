@@ -82,7 +82,7 @@ pub fn load(acc: &mut [u64], words: &[u32])
     }
 }
 
-// out becomes acc mod q
+// out becomes acc mod q. Stays beside `reduce_all`, which writes sums of 64 bits where they stand.
 #[tactic(auto, using(scheme::proofs::InPlace::filled_start, scheme::proofs::InPlace::filled_end, crate::proofs::Rows::mapped_length))]
 pub fn reduce_to(out: &mut [u32], acc: &[u64], q: Divisor)
     requires { length out.old ≡ length acc.now }

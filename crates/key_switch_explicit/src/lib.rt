@@ -31,7 +31,7 @@ impl Kernel for ExplicitKernel {
     }
 }
 
-// B / 2
+// B / 2. Stays beside `error_bound` of gadget_constants: the same shift, of what is no error.
 fn half_of(log: u32) -> u32
     requires { (2 ≤ log) × (log < 32) }
     ensures { result ≡ 2 ^ log / 2 }

@@ -11,7 +11,7 @@ use key_switch_tile::{Shape, TILE, Tile};
 use primus_lattice::LweDimension;
 use primus_reduce::{Divisor, Modulus};
 
-// Room for the accumulators of a tile, each row of the largest dimension and a body.
+// Room for the accumulators of a tile, each row of the largest dimension and a body. Stays: fixed memory, with no heap, cut to what is used.
 const ACCUMULATORS: usize = TILE * (LweDimension::MAX + 1);
 
 // One tile; acc is room for the accumulators of an explicit modulus. Stays: a match: only one kernel needs that room.
@@ -26,7 +26,7 @@ fn switch_tile(acc: &mut [u64], out: &mut [u32], tile: Tile)
 }
 
 // Switches `count` ciphertexts. The accumulators are made once, for every tile.
-// Stays: `count`, which the caller has from its checks; to take it from a length again is no plainer.
+// Stays: `count`: from a length it is a quotient by n + 1, whose proof that it comes out even the caller has made already.
 pub fn switch_tiles(out: &mut [u32], input: &[u32], key: &[u32], count: usize, shape: Shape)
     requires { Shaped shape.basis shape.n shape.m count input.now key.now × (length out.old ≡ count * (shape.m + 1)) }
     ensures { out.new ≡ switched_batch (basis_in shape.basis) shape.n shape.m key.now count input.now }

@@ -10,7 +10,7 @@ use key_switch_entries::{generate_refusal, write_entries};
 use key_switch_parameters::LweKeySwitchingParameters;
 use lwe_secret_key::LweSecretKeyRef;
 
-// Its words are lent.
+// Its words are lent. Stays: no field for them: `generate` writes what it is lent, and C lends them to each call.
 #[derive(Clone, Copy)]
 pub struct LweKeySwitchingKey {}
 
@@ -45,7 +45,7 @@ impl LweKeySwitchingKey {
     }
 
     // Entry (i, j), as that part of the lent key; an empty part where `entry` gives no place.
-    // Stays: no Result: it could not fail before, and `entry` says why there is no part.
+    // Stays: no Result: a call that could not fail goes on so for its users, and `entry` says why there is no part.
     pub fn entry_words(params: LweKeySwitchingParameters, key: &[u32], i: usize, j: usize) -> &[u32]
         ensures { result.now ≡ entry_part params key.now i j }
     {

@@ -7,6 +7,7 @@ use crate::{Kernel, Shape, TILE};
 use gadget_digits::SignedDecomposer;
 
 // `rows` ciphertexts and a key of this shape, as a switch has judged them.
+// Stays: rows beside their words: from a length they are a quotient by n + 1, which the caller has and each method would take again.
 #[derive(Clone, Copy)]
 pub struct Tile<'a> {
     pub input: &'a [u32],
@@ -27,7 +28,7 @@ fn start_row(out: &mut [u32], body: u32)
     out[last] = body;
 }
 
-// Stays: the length of `out` and `acc` is required: the kit's NOT_COVERED names a ghost field beside a `&mut`.
+// Stays: the length of `out` and `acc` is required, in the kernels too: the language takes no ghost field beside a `&mut`.
 impl<'a> Tile<'a> {
     ghost use Rattle.std.specs.Prelude.{◌+◌, ◌*◌, map};
     ghost use Rattle.key_switch_tile.specs.Switched.{LanesOf, begun_tile, ReachedBy, FitsTile, GrownBy};

@@ -4,7 +4,7 @@
 ghost use Rattle.std.specs.Prelude.{◌≡◌, ◌<◌, ℕ, ◌+◌, drop, get_or};
 ghost use Rattle.little_endian.specs.Bytes.{word32, word64};
 
-// Byte i.
+// Byte i. Stays: no Option: past the end every byte is 0, as docs/FILES.md says of a file.
 fn byte(s: &[u8], i: usize) -> u8
     ensures { result ≡ get_or s.now i 0 }
 {
@@ -37,7 +37,7 @@ fn bytes_at<const N: usize>(s: &[u8], i: usize) -> [u8; N]
     bytes
 }
 
-// Four bytes from i on.
+// Four bytes from i on. Stays beside `u64_at`: a trait over two widths is no plainer than two lines.
 #[tactic(auto, using(crate::proofs::Laws::is_word32))]
 pub fn u32_at(s: &[u8], i: usize) -> u32
     ensures { result ≡ word32 s.now i }

@@ -9,7 +9,7 @@ ghost use Rattle.lwe_batch_refusals.specs.Rows.{encrypt_batch_rows, batch_rows};
 use check_order::{Refusal, Values};
 use lwe_parameters::{LweParameters, LwePhaseParameters};
 
-// What refuses encryptions of messages.
+// What refuses encryptions of messages. Stays beside that of one message, which takes a key of either form.
 pub fn encrypt_refusal(
     params: LweParameters,
     secret: &[u32],

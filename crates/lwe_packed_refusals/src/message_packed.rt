@@ -8,7 +8,7 @@ use crate::packed;
 use check_order::{Refusal, Values};
 use lwe_parameters::LweParameters;
 
-// What refuses packed messages. Stays beside that of plaintexts: other parameters, and messages judged after the errors.
+// What refuses packed messages. Stays beside that of plaintexts, as said there.
 pub fn packed_message_refusal(
     params: LweParameters,
     secret: &[u32],

@@ -34,7 +34,8 @@ fn words_refused(modulus: Modulus, secret: &[u32], mask: &[u32], plaintexts: &[u
     checks::both_refused(modulus, mask, plaintexts) | checks::words_refused(modulus, secret)
 }
 
-// What refuses packed plaintexts. Stays beside that of messages: other parameters, and plaintexts judged with the words.
+// What refuses packed plaintexts. Stays beside that of messages:
+// in one function a match on what is encrypted would choose the checks twice, of the sizes and of the values.
 pub fn packed_refusal(
     params: LweEncryptionParameters,
     secret: &[u32],

@@ -33,7 +33,7 @@ impl<'a> Rotation<'a> {
         modulus.reduce_sub(prefix, suffix)
     }
 
-    // Body i less its mask product. Stays: that i is a place of the mask, which no type says of an index.
+    // Body i less its mask product. Stays: i below n is asked of three steps: a struct of an index and its mask would be made for each i.
     #[tactic(auto, using(crate::proofs::Laws::phase_is))]
     fn phase(self, body: u32, i: usize) -> u32
         requires { i < length self.mask.now }
@@ -43,7 +43,7 @@ impl<'a> Rotation<'a> {
         self.ring.modulus.reduce_sub(body, product)
     }
 
-    // Body i: its mask product plus error i and the plaintext. Stays: errors and i: the error becomes a residue here.
+    // Body i: its mask product plus error i and the plaintext. Stays: errors and i, as in `encrypt_row`: one step makes a residue of an error.
     #[tactic(auto, using(crate::proofs::Laws::body_is))]
     fn body(self, errors: &[i32], i: usize, plaintext: u32) -> u32
         requires { i < length self.mask.now }

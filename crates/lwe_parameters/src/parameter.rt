@@ -10,7 +10,7 @@ use check_order::{Refusal, Sizes};
 use primus_lattice::LweDimension;
 use primus_reduce::Modulus;
 
-// Dimension n and modulus q: what a phase is taken with.
+// Dimension n and modulus q: what a phase is taken with. Stays: four structs, none in another: a caller sets each field by its name.
 #[derive(Clone, Copy, Debug, PartialEq, Eq)]
 pub struct LwePhaseParameters {
     pub dimension: LweDimension,
@@ -91,7 +91,7 @@ impl LwePhaseParameters {
     }
 
     // Those, and 7 and 8 where the call takes a plaintext modulus.
-    // Stays: the two set as in `Moduli::judge` and for a mark: each judges something else beside them.
+    // Stays: two lines that `Moduli::judge` has too: parameters would be built on the codec's crate for them alone.
     pub fn sizes_with(self, plaintext_modulus: Option<u32>) -> Sizes
         ensures { JudgesSizes (judged_rows plaintext_modulus self) result }
     {

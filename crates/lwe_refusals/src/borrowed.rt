@@ -20,7 +20,8 @@ fn word_refused(key: LweSecretKeyRef, modulus: Modulus, mask: &[u32], plaintext:
     key.refused_with(modulus, mask) | checks::word_refused(modulus, plaintext)
 }
 
-// What refuses an encryption of an encoded plaintext. Stays beside that of a message: other parameters, and no message to judge.
+// What refuses an encryption of an encoded plaintext. Stays beside that of a message:
+// in one function a match on what is encrypted would choose the checks twice, of the sizes and of the values.
 pub fn encrypt_refusal(
     params: LweEncryptionParameters,
     key: LweSecretKeyRef,

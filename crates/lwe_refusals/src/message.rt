@@ -9,7 +9,7 @@ use check_order::{Refusal, Values};
 use lwe_parameters::LweParameters;
 use lwe_secret_key::LweSecretKeyRef;
 
-// What refuses an encryption of a message. Stays beside that of a plaintext: other parameters, and a message judged after the errors.
+// What refuses an encryption of a message. Stays beside that of a plaintext, as said there.
 pub fn message_refusal(
     params: LweParameters,
     key: LweSecretKeyRef,

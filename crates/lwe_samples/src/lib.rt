@@ -1,6 +1,7 @@
 // Packed ciphertexts: n shared mask words, then at most n bodies.
 // Body i uses the mask rotated right by i, its first i words negated.
-// Stays: each lent buffer is a parameter of its own, as in the Rust and in C; what refuses a call takes them as they come.
+// Stays: each lent buffer is a parameter of its own, as in the Rust and in C; what refuses a call takes them as they come. So are q and n:
+// the struct of them, LwePhaseParameters, is made above this crate.
 #![tactic(auto)]
 
 ghost use Rattle.std.specs.Prelude.{◌≡◌, ◌||◌, ◌+◌, ◌-◌, ◌<◌, ◌≤◌, length, get_or};
@@ -58,7 +59,7 @@ fn extract_refusal(
 }
 
 // The sample of body `index`: the mask turned by `index` places, negated where it wraps, then the body. A sample of n + 1 words.
-// Stays: index, which is a place and no length.
+// Stays: index beside a slice: it is a place, and no length of it.
 fn write_extracted(out: &mut [u32], input: &[u32], index: usize, ring: Ring)
     requires { let n = length out.old - 1 in (index < n) × (n + index < length input.now) }
     ensures { out.new ≡ extracted (size_of ring.modulus) (length out.old - 1) input.now index }

@@ -132,7 +132,7 @@ fn marked(q: u64, t: u32, tally: Option<u64>) -> bool
     tally.is_some_and(|a| below(q, t, a))
 }
 
-// Stays: 2, 7 and 8 in three lines: `Moduli::judge` is no plainer, it asks for an output's length too.
+// Stays: three lines that `Moduli::judge` has too: a tag would be built on the codec's crate for them alone.
 fn mark_refusal(tag: LweTag, modulus: Modulus, t: u32) -> Result<(), Refusal>
     ensures { code_of result ≡ refusal (mark_rows tag modulus t) }
 {

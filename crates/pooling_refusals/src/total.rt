@@ -14,7 +14,7 @@ use primus_reduce::Modulus;
 use saved_head::Head;
 
 // 19: no ciphertexts of one message each, or made with another q or t.
-// Stays: numbers compared: a file's modulus is a number, and there `Explicit(0)` and native are the same one.
+// Stays: numbers compared, no `==`: the modulus that a caller gives may be `Explicit(0)`, which has native's number, as a file would.
 fn is_other(h: Head, modulus: Modulus, plaintext_modulus: u32) -> bool
     ensures { result ≡ other_fails h modulus plaintext_modulus }
 {
@@ -23,7 +23,7 @@ fn is_other(h: Head, modulus: Modulus, plaintext_modulus: u32) -> bool
         || h.plaintext_modulus != plaintext_modulus
 }
 
-// The head of a whole file of this total; others are refused by 19.
+// The head of a whole file of this total; others are refused by 19. Stays: no `file_refusal(..)?`: one line has both that 19 stands for.
 #[tactic(auto, unfolding(check_order::specs::Answer::number_of))]
 fn own_head(params: LweDecryptionParameters, bytes: &[u8]) -> Result<Head, Refusal>
     ensures { OwnHead params bytes.now result }
@@ -47,7 +47,7 @@ fn rows_differ(dimension: LweDimension, h: Head, len: usize) -> bool
         | dimension.differs(h.n)
 }
 
-// 14: one of the first `count` words of a file. Stays: a loop, as pooling_rows has for tallies, where the proof of `any` did not close.
+// 14: one of the first `count` words of a file.
 #[tactic(auto, using(crate::proofs::Laws::words_none, crate::proofs::Laws::words_next))]
 fn file_words_refused(q: Modulus, bytes: &[u8], count: usize) -> bool
     ensures { result ≡ words_fail (size_of q) (file_words bytes.now count) }
@@ -77,6 +77,7 @@ fn sizes(params: LweDecryptionParameters, h: Head, len: usize, places: usize) ->
     s
 }
 
+// Stays beside `judged`, and `begin_refusal` beside `total_refusal`: where a total begins, no words and no tallies of it are judged.
 fn begin_judged(
     params: LweDecryptionParameters,
     h: Head,

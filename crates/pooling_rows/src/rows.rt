@@ -23,6 +23,9 @@ fn words_from(out: &mut [u32], bytes: &[u8], at: usize)
     }
 }
 
+// A row of the largest dimension. Stays: fixed memory, with no heap, cut to the width of the total.
+const ROW: usize = LweDimension::MAX + 1;
+
 // Adds ciphertext i of a file to that of a total, in its place: the number of the sum's tag.
 // Stays: a tag as its number, as a total lends its tallies; i, a place and no length; and q and n alone, since a sum takes no t.
 pub fn add_row(
@@ -43,7 +46,7 @@ pub fn add_row(
 {
     let width = dimension.get() + 1;
     let at = i * width;
-    let mut space = [0u32; 2049];
+    let mut space = [0u32; ROW];
     let room = &mut space[..width];
     words_from(room, bytes, at);
     let tag = saved::tag_at(bytes, i);

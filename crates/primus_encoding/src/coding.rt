@@ -21,6 +21,7 @@ pub(crate) enum Coding {
 }
 
 // The word for x, where the output holds `held`.
+// Stays: coding and moduli alone, here and below: a call has the one before it judges and the other after, and a third struct is no plainer.
 #[tactic(auto, using(crate::proofs::Laws::add_is))]
 fn code_word(coding: Coding, moduli: Moduli, x: u32, held: u32) -> u32
     requires { message_fault coding moduli.t x ≡ false }

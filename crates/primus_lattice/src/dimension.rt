@@ -5,7 +5,7 @@ ghost use Rattle.primus_lattice.specs.Answers.{dimension_answer, given};
 
 use check_order::Refusal;
 
-// n, the number of mask words.
+// n, the number of mask words. Stays beside DecompositionBaseLog: two numbers with limits of their own; a trait over both is no plainer.
 #[derive(Clone, Copy, Debug, PartialEq, Eq)]
 pub struct LweDimension(usize);
 

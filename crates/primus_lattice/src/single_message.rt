@@ -12,7 +12,7 @@ use lwe_tag::LweTag;
 use primus_reduce::Modulus;
 
 // a + b modulo q, of words below q.
-// Stays: no twin of `Divisor::add`, which takes any words and reduces them first: these are below q, which a lent word has no type for.
+// Stays: no `Divisor::add`, which takes any words and tests them first: these are below q, as judged, and so the loop vectorizes.
 fn add_below(a: u32, b: u32, q: u32) -> u32
     requires { (a < q) × (b < q) }
     ensures { result ≡ (a + b) % q }

@@ -66,7 +66,7 @@ pub fn encrypt_message_batch_to(
     Ok(LweTag::with_tally(u64::from(params.error_limit)))
 }
 
-// The phase of row i. Stays: i, which is a place in the batch and no length.
+// The phase of row i. Stays: i beside a slice: it is a place in the batch, and no length of it.
 fn row_phase(input: &[u32], secret: &[u32], i: usize, ring: Ring) -> u32
     requires { i * (length secret.now + 1) + (length secret.now + 1) ≤ length input.now }
     ensures { result ≡ batch_phase (size_of ring.modulus) (length secret.now)

@@ -13,7 +13,7 @@ use lwe_parameters::{LweDecryptionParameters, LweParameters};
 use lwe_tag::LweTag;
 
 // encode(m) of each message in its body's place, for a call that has judged them.
-// Stays beside the codec's slice, which would judge again.
+// Stays beside the codec's own loop, a private step of a call that would judge again.
 fn write_encodings(
     bodies: &mut [u32],
     moduli: Moduli,

@@ -16,7 +16,7 @@ use primus_lattice::LweDimension;
 use primus_lwe::{LweEncryptionParameters, LweParameters};
 use primus_reduce::{Modulus, Ring};
 
-// Its words are lent: n rows of n + 1.
+// Its words are lent: n rows of n + 1. Stays: no field for them: `generate` writes what it is lent, and C lends them to each call.
 #[derive(Clone, Copy)]
 pub struct LwePublicKey {}
 
@@ -65,7 +65,7 @@ fn lent_refused(error_limit: u32, errors: &[i32], coefficients: &[i32]) -> bool
     checks::coefficients_refused(coefficients) | checks::errors_refused(error_limit, errors)
 }
 
-// Stays beside that of a message: other parameters, and the plaintext is judged with the words.
+// Stays beside that of a message: in one function a match on what is encrypted would choose the checks twice, of the sizes and of the values.
 fn public_refusal(
     params: LweEncryptionParameters,
     key: &[u32],
@@ -90,7 +90,7 @@ fn public_refusal(
     v.judge()
 }
 
-// Stays beside that of a plaintext: other parameters, and a message judged after the errors.
+// Stays beside that of a plaintext, as said there.
 fn public_message_refusal(
     params: LweParameters,
     key: &[u32],

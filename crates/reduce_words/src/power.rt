@@ -32,7 +32,7 @@ pub(crate) fn low_bits(x: u64, bits: u32) -> u32
     (x & mask) as u32
 }
 
-// ⌊x / y⌋: a shift for a power of two. Stays: the test of `is_power` again, of 64 bits.
+// ⌊x / y⌋: a shift for a power of two. Stays: the test of `is_power` again, of 64 bits: a trait over two widths is no plainer.
 pub fn quotient(x: u64, y: u64) -> u64
     requires { 0 < y }
     ensures { result ≡ x / y }

@@ -11,7 +11,7 @@ use check_order::Refusal;
 use primus_reduce::Modulus;
 
 // What the words are, and what they were made with; 0 where a number does not apply.
-// Stays: numbers, no Options: a head is told as the file has it.
+// Stays: numbers, no Options: a program prints a head as the file has it.
 #[derive(Clone, Copy)]
 pub struct Head {
     pub kind: Kind,
@@ -27,7 +27,7 @@ pub struct Head {
     pub beside: u32,
 }
 
-// The head, of any bytes. Stays beside `file_refusal`: the head of a refused file is told too.
+// The head, of any bytes. Stays beside `file_refusal`: a program prints the head of a refused file too.
 #[tactic(auto, unfolding(crate::specs::Head::head_of))]
 pub fn head_of(bytes: &[u8]) -> Head
     ensures { result ≡ head_of bytes.now }

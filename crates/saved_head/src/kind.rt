@@ -2,7 +2,7 @@
 ghost use Rattle.std.specs.Prelude.{◌≡◌};
 ghost use Rattle.saved_head.specs.Kind.{kind_for, number_of, is_ciphertexts, is_unknown};
 
-// A number of no kind is kept: such a file is refused. Stays: no Option: the number is told.
+// A number of no kind is kept: such a file is refused. Stays: no Option: a program prints the number.
 #[derive(Clone, Copy, Debug, PartialEq, Eq)]
 pub enum Kind {
     SecretKey,
