@@ -82,7 +82,7 @@ module _ {p : PreparedBasis} {n m rows : ℕ} {input key : List ℕ} (sh : Shape
 
   -- word i of row t
   word_below : (t i : ℕ) → t < rows → i < n → get_or input (t * (n + 1) + i) 0 < size_of p.modulus
-  word_below t i h k = sh.words (t * (n + 1) + i) (omega (arith, sh.inputs, digits_lt h (omega arith)))
+  word_below t i h k = sh.words (t * (n + 1) + i) (omega (arith, sh.inputs, digits_lt {r = i} {c = n + 1} h (omega arith)))
 
   lane-is : (i : ℕ) → i < n → (lanes : List SignedDecomposer) → Lanes p n rows i input lanes → (t : ℕ) → t < rows
       → lane lanes t ≡ decomposer_of (basis_in p) (get_or (row_of n input t) i 0)
@@ -131,7 +131,7 @@ module _ {p : PreparedBasis} {n m rows : ℕ} {input key : List ℕ} (sh : Shape
   unfolding start_word
   start-most acc e t c h k =
       subst (λ w. w ≤ size_of p.modulus) (sym (ap (λ l. get_or l (t * (m + 1) + c) 0) e ∙ begun_at t c h k))
-      (go (eqb c m) (subst (λ w. w < size_of p.modulus) (sym (part_at (n + 1) input t n (omega arith))) (sh.words (t * (n + 1) + n) (omega (arith, sh.inputs, digits_lt h (omega arith))))))
+      (go (eqb c m) (subst (λ w. w < size_of p.modulus) (sym (part_at (n + 1) input t n (omega arith))) (sh.words (t * (n + 1) + n) (omega (arith, sh.inputs, digits_lt {r = n} {c = n + 1} h (omega arith))))))
     where
       go : (b : Bool) → get_or (row_of n input t) n 0 < size_of p.modulus → pick b (get_or (row_of n input t) n 0) 0 ≤ size_of p.modulus
       go true l = omega arith
