@@ -119,6 +119,6 @@ pub fn write_entries(
         let j = k % p.level_count;
         let secret = key.residue(i, modulus);
         let plaintext = modulus.reduce_mul(secret, weights[j]);
-        output.encrypt_row(out, masks, m, errors, k, plaintext, ring);
+        lwe_secret_key::encrypt_row(output, out, masks, m, errors, k, plaintext, ring);
     }
 }

@@ -26,7 +26,7 @@ pub fn write_zeros(
         (secret_of (key_of key.entry)) (errorsOf errors.now) }
 {
     for i in 0..n {
-        key.encrypt_row(out, masks, n, errors, i, 0, ring);
+        lwe_secret_key::encrypt_row(key, out, masks, n, errors, i, 0, ring);
     }
 }
 

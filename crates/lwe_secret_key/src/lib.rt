@@ -6,4 +6,4 @@ mod key;
 mod steps;
 
 pub use key::LweSecretKeyRef;
-pub use steps::body;
+pub use steps::{body, encrypt_row, encrypt_to};

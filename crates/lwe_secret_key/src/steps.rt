@@ -28,27 +28,51 @@ pub fn body(sum: u32, error: u32, plaintext: u32, ring: Ring) -> u32
     modulus.reduce_add(noisy, plaintext)
 }
 
-impl<'a> LweSecretKeyRef<'a> {
-    // The mask, and the body ⟨a, s⟩ + e + p with lent error i.
-    #[tactic(auto, using(crate::proofs::Laws::encrypted_is))]
-    pub fn encrypt_to(
-        self,
-        out: &mut [u32],
-        mask: &[u32],
-        errors: &[i32],
-        i: usize,
-        plaintext: u32,
-        ring: Ring,
-    )
-        requires { length out.old ≡ length mask.now + 1 }
-        ensures { out.new ≡ encrypted (size_of ring.modulus) (length mask.now) mask.now
-            (secret_of (key_of self.entry)) (get_or errors.now i (pos 0)) (pos plaintext) }
-    {
-        let sum = self.product(mask, ring.modulus);
-        let error = Factor::residue_at(errors, i, ring.modulus);
-        write(out, mask, body(sum, error, plaintext, ring));
-    }
+// The mask, and the body ⟨a, s⟩ + e + p with lent error i. A function, no method: a user may call nothing that has a `requires`.
+#[tactic(auto, using(crate::proofs::Laws::encrypted_is))]
+pub fn encrypt_to(
+    key: LweSecretKeyRef,
+    out: &mut [u32],
+    mask: &[u32],
+    errors: &[i32],
+    i: usize,
+    plaintext: u32,
+    ring: Ring,
+)
+    requires { length out.old ≡ length mask.now + 1 }
+    ensures { out.new ≡ encrypted (size_of ring.modulus) (length mask.now) mask.now
+        (secret_of (key_of key.entry)) (get_or errors.now i (pos 0)) (pos plaintext) }
+{
+    let sum = key.product(mask, ring.modulus);
+    let error = Factor::residue_at(errors, i, ring.modulus);
+    write(out, mask, body(sum, error, plaintext, ring));
+}
 
+// Row i in its place, with mask i and error i.
+// Stays: n beside the masks, whose length is that of all rows; a key of another length counts as 0 past its end.
+pub fn encrypt_row(
+    key: LweSecretKeyRef,
+    out: &mut [u32],
+    masks: &[u32],
+    n: usize,
+    errors: &[i32],
+    i: usize,
+    plaintext: u32,
+    ring: Ring,
+)
+    requires { (i * n + n ≤ length masks.now) × (i * (n + 1) + (n + 1) ≤ length out.old) }
+    ensures { out.new ≡ replaced out.old (i * (n + 1)) (n + 1)
+        (encrypted (size_of ring.modulus) n (take n (drop (i * n) masks.now))
+        (secret_of (key_of key.entry)) (get_or errors.now i (pos 0)) (pos plaintext)) }
+{
+    let from = i * n;
+    let at = i * (n + 1);
+    let mask = &masks[from..from + n];
+    let row = &mut out[at..at + (n + 1)];
+    encrypt_to(key, row, mask, errors, i, plaintext, ring);
+}
+
+impl<'a> LweSecretKeyRef<'a> {
     // b − ⟨a, s⟩, where the last word is b.
     #[tactic(auto, using(crate::proofs::Laws::phase_is, crate::proofs::Laws::phase_none))]
     pub fn phase(self, ciphertext: &[u32], ring: Ring) -> u32
@@ -62,29 +86,5 @@ impl<'a> LweSecretKeyRef<'a> {
                 ring.modulus.reduce_sub(*last, sum)
             }
         }
-    }
-
-    // Row i in its place, with mask i and error i.
-    // Stays: n beside the masks, whose length is that of all rows; a key of another length counts as 0 past its end.
-    pub fn encrypt_row(
-        self,
-        out: &mut [u32],
-        masks: &[u32],
-        n: usize,
-        errors: &[i32],
-        i: usize,
-        plaintext: u32,
-        ring: Ring,
-    )
-        requires { (i * n + n ≤ length masks.now) × (i * (n + 1) + (n + 1) ≤ length out.old) }
-        ensures { out.new ≡ replaced out.old (i * (n + 1)) (n + 1)
-            (encrypted (size_of ring.modulus) n (take n (drop (i * n) masks.now))
-            (secret_of (key_of self.entry)) (get_or errors.now i (pos 0)) (pos plaintext)) }
-    {
-        let from = i * n;
-        let at = i * (n + 1);
-        let mask = &masks[from..from + n];
-        let row = &mut out[at..at + (n + 1)];
-        self.encrypt_to(row, mask, errors, i, plaintext, ring);
     }
 }

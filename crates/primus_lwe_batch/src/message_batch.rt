@@ -39,7 +39,7 @@ fn write_messages(
     let n = secret.len();
     for (i, message) in messages.iter().enumerate() {
         let plaintext = moduli.encode_as(embedding, *message);
-        key.encrypt_row(out, masks, n, errors, i, plaintext, moduli.ring());
+        lwe_secret_key::encrypt_row(key, out, masks, n, errors, i, plaintext, moduli.ring());
     }
 }
 

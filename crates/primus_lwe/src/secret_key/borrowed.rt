@@ -25,7 +25,7 @@ pub fn encrypt_encoded_to(
     let ring = Ring {
         modulus: params.modulus,
     };
-    key.encrypt_to(out, mask, errors, 0, plaintext, ring);
+    lwe_secret_key::encrypt_to(key, out, mask, errors, 0, plaintext, ring);
     Ok(LweTag::with_tally(u64::from(params.error_limit)))
 }
 

@@ -29,7 +29,7 @@ pub fn encrypt_message_to(
         modulus: params.modulus,
     };
     let plaintext = moduli.encode_as(embedding, message);
-    key.encrypt_to(out, mask, errors, 0, plaintext, moduli.ring());
+    lwe_secret_key::encrypt_to(key, out, mask, errors, 0, plaintext, moduli.ring());
     Ok(LweTag::with_tally(u64::from(params.error_limit)))
 }
 
