@@ -3,7 +3,7 @@
 
 ghost use Rattle.std.specs.Prelude.{◌≡◌, ◌||◌, ◌*◌, length};
 ghost use Rattle.scheme.specs.Lwe.{key_length};
-ghost use Rattle.scheme.specs.Checks.{refusal, length_fails, error_limit_fails, words_fail, key_fails};
+ghost use Rattle.scheme.specs.Checks.{refusal, length_fails, words_fail, key_fails};
 ghost use Rattle.check_order.specs.Answer.{code_of};
 ghost use Rattle.gadget_constants.specs.Prepared.{Ready};
 ghost use Rattle.primus_decompose.specs.Answers.{rows, prepared_by};
@@ -37,13 +37,6 @@ fn lent_differs(params: LweKeySwitchingParameters, masks: usize, errors: usize) 
     checks::runs_differ(errors, n, params.level_count()) | checks::runs_differ(masks, errors, m)
 }
 
-// 13
-fn error_limit_refused(params: LweKeySwitchingParameters, error_limit: u32) -> bool
-    ensures { result ≡ error_limit_fails (q_in params) error_limit }
-{
-    checks::error_limit_refused(error_limit, params.basis.modulus())
-}
-
 // 14, of both keys and the masks.
 fn words_refused(
     params: LweKeySwitchingParameters,
@@ -59,6 +52,7 @@ fn words_refused(
 }
 
 // The first refusal of a generation.
+// Stays: keys, masks and errors each alone, as `generate` is lent them: a struct would be made in one line and taken apart in the next.
 pub fn generate_refusal(
     params: LweKeySwitchingParameters,
     error_limit: u32,
@@ -76,7 +70,7 @@ pub fn generate_refusal(
     s.key = keys_differ(params, key, output_key.len());
     s.output = params.key_differs(room);
     s.lent = lent_differs(params, masks.len(), errors.len());
-    s.error_limit = error_limit_refused(params, error_limit);
+    s.error_limit = checks::error_limit_refused(error_limit, params.basis.modulus());
     s.judge()?;
     let mut v = Values::NONE;
     v.word = words_refused(params, key, output_key, masks);
@@ -95,6 +89,7 @@ fn prepared(params: LweKeySwitchingParameters) -> PreparedBasis
 }
 
 // Every entry, for calls that have judged what they are lent: entry k = i × L + j has mask and error k.
+// Stays: keys, masks and errors each alone, as in `generate_refusal`.
 #[tactic(auto, using(crate::proofs::Entries::entered_end))]
 pub fn write_entries(
     out: &mut [u32],
