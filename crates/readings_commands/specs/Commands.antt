@@ -1,12 +1,12 @@
 -- "The program `readings`": its commands, the operands that each takes, and 19.
-use Rattle.std.specs.Prelude.{false, List, ℕ, Some, Result, Ok, Err, leb, eqb, length, get_or}
+use Rattle.std.specs.Prelude.{List, ℕ, Result, Ok, Err, leb, eqb, length, get_or}
 use Rattle.scheme.specs.Numbers.{pick}
 use Rattle.little_endian.specs.Bytes.{word32}
 use Rattle.primus_reduce.specs.Ring.{modulus_for}
 use Rattle.primus_decompose.specs.Answers as A
 use Rattle.check_order.specs.declared.refusal.Refusal.{Refusal}
 use Rattle.check_order.specs.declared.refusal.Refusal.TheVariants.{Unreadable}
-use Rattle.readings_core.specs.Program.{Session, basis_turn, word_turn}
+use Rattle.readings_core.specs.Program.{Session, over, basis_turn, word_turn}
 use Rattle.readings_core.specs.declared.command.Turn.{Turn}
 use Rattle.readings_commands.specs.declared.Command.{Command}
 use Rattle.readings_commands.specs.declared.Command.TheVariants.{Basis, Word}
@@ -18,11 +18,6 @@ command_of c = pick (eqb c 1) (Ok Basis) (pick (eqb c 2) (Ok Word) (Err Unreadab
 abbrev pub operands : Command → ℕ
 operands Basis = 6
 operands Word = 4
-
--- "19. The command is unknown or its operands are cut off": "such a command gets 19 and no other number"
--- "After 19 it ends."
-abbrev pub over : Session → Turn
-over s = record { reply = Some (Err Unreadable); session = s; more = false }
 
 abbrev pub basis_command : Session → List ℕ → Turn
 basis_command s xs =

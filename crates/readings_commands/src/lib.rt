@@ -2,7 +2,7 @@
 #![tactic(auto)]
 
 ghost use Rattle.std.specs.Prelude.{◌≡◌, ◌≤◌};
-ghost use Rattle.readings_commands.specs.Commands.{command_of, operands, over, basis_command, word_command, turn_of};
+ghost use Rattle.readings_commands.specs.Commands.{command_of, operands, basis_command, word_command, turn_of};
 
 use check_order::Refusal;
 use primus_decompose::ApproxSignedBasis;
@@ -53,23 +53,12 @@ impl Command {
     }
 }
 
-// 19, and the end.
-pub fn end(session: Session) -> Turn
-    ensures { result ≡ over session }
-{
-    Turn {
-        reply: Some(Err(Refusal::Unreadable)),
-        session,
-        more: false,
-    }
-}
-
 // 01: modulus, base log, levels.
 fn basis_command(session: Session, operands: &[u8]) -> Turn
     ensures { result ≡ basis_command session operands.now }
 {
     if operands.len() < 6 {
-        return end(session);
+        return Turn::end(session);
     }
     let modulus = Modulus::from(little_endian::u32_at(operands, 0));
     let log = little_endian::u8_at(operands, 4);
@@ -82,7 +71,7 @@ fn word_command(session: Session, operands: &[u8]) -> Turn
     ensures { result ≡ word_command session operands.now }
 {
     if operands.len() < 4 {
-        return end(session);
+        return Turn::end(session);
     }
     readings_core::on_word(session, little_endian::u32_at(operands, 0))
 }

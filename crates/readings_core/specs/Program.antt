@@ -1,5 +1,5 @@
 -- "The program `readings`": what a basis and a word answer, and what they leave for the next command.
-use Rattle.std.specs.Prelude.{true, ℕ, Option, Some, None, Result, Ok, Err}
+use Rattle.std.specs.Prelude.{Bool, true, false, ℕ, Option, Some, None, Result, Ok, Err}
 use Rattle.scheme.specs.Modulus as S
 use Rattle.scheme.specs.Basis as B
 use Rattle.primus_reduce.specs.Ring.{meant}
@@ -34,6 +34,15 @@ basis_line b t =
 
 abbrev pub go : Result Reply Refusal → Session → Turn
 go r s = record { reply = Some r; session = s; more = true }
+
+-- "19. The command is unknown or its operands are cut off": "such a command gets 19 and no other number"
+-- "After 19 it ends."
+abbrev pub over : Session → Turn
+over s = record { reply = Some (Err F.Unreadable); session = s; more = false }
+
+-- no line
+abbrev pub silent : Session → Bool → Turn
+silent s more = record { reply = None; session = s; more = more }
 
 -- a basis is judged by 1 to 3 and 5, as T is answered; "A refused basis keeps the earlier one."
 abbrev pub after_basis : Session → ApproxSignedBasis → Result ℕ Refusal → Turn

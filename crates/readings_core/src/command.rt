@@ -1,6 +1,6 @@
 // What a basis and a word answer, and what they leave for the next command.
 ghost use Rattle.std.specs.Prelude.{◌≡◌};
-ghost use Rattle.readings_core.specs.Program.{basis_line, go, basis_turn, read_word, word_turn};
+ghost use Rattle.readings_core.specs.Program.{basis_line, go, over, silent, basis_turn, read_word, word_turn};
 
 use check_order::Refusal;
 use primus_decompose::ApproxSignedBasis;
@@ -28,6 +28,7 @@ pub struct WordReply {
     pub word: u32,
     pub reading: i64,
     pub error: i64,
+    // Stays: an array and how much of it counts: `arrayvec::ArrayVec` is not Copy, and a reply is handed on by value.
     pub digits: [i64; 16],
     pub level_count: usize,
 }
@@ -45,6 +46,41 @@ pub struct Turn {
     pub session: Session,
     // Stays: a fact of its own, and no flag of a value beside it: the other fields hold either way.
     pub more: bool,
+}
+
+impl Turn {
+    // An answer after which the program goes on.
+    pub fn next(reply: Result<Reply, Refusal>, session: Session) -> Turn
+        ensures { result ≡ go reply session }
+    {
+        Turn {
+            reply: Some(reply),
+            session,
+            more: true,
+        }
+    }
+
+    // 19, and the end.
+    pub fn end(session: Session) -> Turn
+        ensures { result ≡ over session }
+    {
+        Turn {
+            reply: Some(Err(Refusal::Unreadable)),
+            session,
+            more: false,
+        }
+    }
+
+    // No line: a command is not whole yet, or there is none.
+    pub fn quiet(session: Session, more: bool) -> Turn
+        ensures { result ≡ silent session more }
+    {
+        Turn {
+            reply: None,
+            session,
+            more,
+        }
+    }
 }
 
 impl fmt::Display for BasisReply {
@@ -91,24 +127,13 @@ fn basis_line(b: ApproxSignedBasis, threshold: u32) -> BasisReply
     }
 }
 
-// An answer after which the program goes on.
-fn next(reply: Result<Reply, Refusal>, session: Session) -> Turn
-    ensures { result ≡ go reply session }
-{
-    Turn {
-        reply: Some(reply),
-        session,
-        more: true,
-    }
-}
-
 // A refused basis keeps the earlier one.
 pub fn on_basis(session: Session, b: ApproxSignedBasis) -> Turn
     ensures { result ≡ basis_turn session b }
 {
     match b.threshold() {
-        Ok(t) => next(Ok(Reply::Basis(basis_line(b, t))), Some(b)),
-        Err(refusal) => next(Err(refusal), session),
+        Ok(t) => Turn::next(Ok(Reply::Basis(basis_line(b, t))), Some(b)),
+        Err(refusal) => Turn::next(Err(refusal), session),
     }
 }
 
@@ -127,9 +152,9 @@ fn read_word(b: ApproxSignedBasis, word: u32) -> Turn
                 digits: readings_digits::of_word(b, word),
                 level_count: levels.get(),
             };
-            next(Ok(Reply::Word(reply)), Some(b))
+            Turn::next(Ok(Reply::Word(reply)), Some(b))
         }
-        Err(refusal) => next(Err(refusal), Some(b)),
+        Err(refusal) => Turn::next(Err(refusal), Some(b)),
     }
 }
 
@@ -138,7 +163,7 @@ pub fn on_word(session: Session, word: u32) -> Turn
     ensures { result ≡ word_turn session word }
 {
     match session {
-        None => next(Err(Refusal::NoBasis), None),
+        None => Turn::next(Err(Refusal::NoBasis), None),
         Some(b) => read_word(b, word),
     }
 }

@@ -10,7 +10,8 @@ use readings_reader::Reader;
 use readings_steps::Step;
 use std::io::{Read, Write};
 
-// One read of up to 64 bytes; prints the turns that it leaves. Stays: none where it fails: the input ends there.
+// One read of up to 64 bytes; prints the turns that it leaves.
+// Stays: a read that fails gives no byte: the input ends there.
 fn read_some(before: Reader, input: &mut impl Read, output: &mut impl Write) -> Step
     ensures { Stepped before result }
 {

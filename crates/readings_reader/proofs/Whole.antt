@@ -11,10 +11,10 @@ use lib.ListN.{length, take, drop, set, length-append, length-set}
 use lib.Seq.{take_all, take-suc-set}
 use borrow.Author.Tests.{le-leb, lt-leb, lt-ltb}
 use Rattle.scheme.specs.Numbers.{pick}
-use Rattle.readings_commands.specs.Commands.{command_of, operands, over, turn_of}
-use Rattle.readings_reader.specs.Run.{Line, due, operands_by, turn_by, lines_within, lines_of, silent, start, settled_by, begun_by, fed, finished, lines_fed}
+use Rattle.readings_commands.specs.Commands.{command_of, operands, turn_of}
+use Rattle.readings_reader.specs.Run.{Line, due, operands_by, turn_by, lines_within, lines_of, start, settled_by, begun_by, fed, finished, lines_fed}
 use Rattle.std.proofs.Common.{Some, None, Result, Ok, Err}
-use Rattle.readings_core.specs.Program.{Session}
+use Rattle.readings_core.specs.Program.{Session, over, silent}
 use Rattle.readings_core.specs.declared.command.Turn.{Turn}
 use Rattle.check_order.specs.declared.refusal.Refusal.{Refusal}
 use Rattle.readings_commands.specs.declared.Command.{Command}

@@ -1,8 +1,8 @@
 -- A whole run of the program: its commands one after the other, and the same byte by byte.
-use Rattle.std.specs.Prelude.{Bool, true, false, List, [], ◌∷◌, ◌++◌, ℕ, zero, suc, ◌+◌, leb, ltb, length, take, drop, set, Option, Some, None, Result, Ok, Err}
+use Rattle.std.specs.Prelude.{true, false, List, [], ◌∷◌, ◌++◌, ℕ, zero, suc, ◌+◌, leb, ltb, length, take, drop, set, Option, Some, None, Result, Ok, Err}
 use Rattle.scheme.specs.Numbers.{pick}
-use Rattle.readings_core.specs.Program.{Session}
-use Rattle.readings_commands.specs.Commands.{command_of, operands, over, turn_of}
+use Rattle.readings_core.specs.Program.{Session, over, silent}
+use Rattle.readings_commands.specs.Commands.{command_of, operands, turn_of}
 use Rattle.check_order.specs.declared.refusal.Refusal.{Refusal}
 use Rattle.readings_core.specs.declared.command.Reply.{Reply}
 use Rattle.readings_core.specs.declared.command.Turn.{Turn}
@@ -54,9 +54,6 @@ abbrev pub lines_of : List ℕ → List Line
 lines_of xs = lines_within (length xs) None xs
 
 -- ---- byte by byte
-
-abbrev pub silent : Session → Bool → Turn
-silent s more = record { reply = None; session = s; more = more }
 
 -- before the first byte
 abbrev pub start : Reader

@@ -1,7 +1,7 @@
 // Commands out of bytes: which bytes make one, what each answers, and what the end of the input leaves.
 ghost use Rattle.std.specs.Prelude.{◌≡◌, ◌≤◌};
 ghost use Rattle.readings_commands.specs.Commands.{command_of};
-ghost use Rattle.readings_reader.specs.Run.{silent, start, put, one_more, settled_by, begun_by, fed, finished};
+ghost use Rattle.readings_reader.specs.Run.{start, put, one_more, settled_by, begun_by, fed, finished};
 
 use readings_commands::Command;
 use readings_core::{Session, Turn};
@@ -14,17 +14,6 @@ pub struct Reader {
     // Stays: an array and how much of it is filled: `arrayvec::ArrayVec` is not Copy, and a reader is handed on by value.
     pub held: [u8; 6],
     pub count: usize,
-}
-
-// No line: a command is not whole yet, or there is none.
-fn quiet(session: Session, more: bool) -> Turn
-    ensures { result ≡ silent session more }
-{
-    Turn {
-        reply: None,
-        session,
-        more,
-    }
 }
 
 // Six bytes are the most that a command takes.
@@ -58,7 +47,7 @@ fn settled(session: Session, command: Command, held: [u8; 6], count: usize) -> R
         };
     }
     Reader {
-        turn: quiet(session, true),
+        turn: Turn::quiet(session, true),
         command: Some(command),
         held,
         count,
@@ -72,7 +61,7 @@ fn begun(session: Session, held: [u8; 6], byte: u8) -> Reader
     match Command::try_from(byte) {
         Ok(command) => settled(session, command, held, 0),
         Err(_) => Reader {
-            turn: readings_commands::end(session),
+            turn: Turn::end(session),
             command: None,
             held,
             count: 0,
@@ -86,7 +75,7 @@ impl Reader {
         ensures { result ≡ start }
     {
         Reader {
-            turn: quiet(None, true),
+            turn: Turn::quiet(None, true),
             command: None,
             held: [0; 6],
             count: 0,
@@ -114,7 +103,7 @@ impl Reader {
             };
         }
         Reader {
-            turn: quiet(session, false),
+            turn: Turn::quiet(session, false),
             command: None,
             held,
             count: 0,
@@ -129,8 +118,8 @@ impl Reader {
         let turn = self.turn;
         let session = turn.session;
         match self.command {
-            Some(_) => readings_commands::end(session),
-            None => quiet(session, false),
+            Some(_) => Turn::end(session),
+            None => Turn::quiet(session, false),
         }
     }
 }
