@@ -49,6 +49,7 @@ enum Next {
     Broken,
 }
 
+// Stays: a match on the file's tag: each stands for a record of another length.
 fn turn(input: &mut impl Read) -> Next {
     match programs::record::<1>(input).map(|tag| tag[0]) {
         Some(0) => Next::End,

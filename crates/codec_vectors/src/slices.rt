@@ -57,6 +57,7 @@ fn answer(codec: RoundedCodec, r: &[u8], lent: &[u32], buffer: &mut [u32]) -> Op
     let call = Call::try_from(little_endian::u8_at(r, 9)).ok()?;
     let lent = lent.get(..little_endian::u8_at(r, 11) as usize)?;
     let buffer = buffer.get_mut(..little_endian::u8_at(r, 12) as usize)?;
+    // Stays: a number, 0 for none: the record holds it so, and it is compared once.
     Some(c_numbers::code(called(call, codec, r, lent, buffer)))
 }
 

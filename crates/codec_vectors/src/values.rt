@@ -2,16 +2,20 @@
 use check_order::Refusal;
 use primus_encoding::{MessageDecoder, PlaintextEmbedding, RoundedCodec};
 
-fn is(answer: Result<u32, Refusal>, refusal: u32, value: u32) -> bool {
-    match answer {
-        Ok(x) => refusal == 0 && x == value,
-        Err(reason) => u32::from(reason) == refusal,
+// What a record expects of a call: the value at one place, or the number of a refusal at another.
+fn expected(r: &[u8], refusal: usize, value: usize) -> Result<u32, u32> {
+    match little_endian::u8_at(r, refusal) {
+        0 => Ok(little_endian::u32_at(r, value)),
+        number => Err(number),
     }
+}
+
+fn is(answer: Result<u32, Refusal>, expected: Result<u32, u32>) -> bool {
+    answer.map_err(|reason| u32::from(reason)) == expected
 }
 
 fn encodings_right(codec: RoundedCodec, r: &[u8]) -> bool {
     let x = little_endian::u32_at(r, 9);
-    let refusal = little_endian::u8_at(r, 18);
     let plain = codec.encode_value(x, PlaintextEmbedding::Unsigned);
     let centered = codec.encode_value(x, PlaintextEmbedding::Centered);
     let sum = codec.add_encode_value_assign(
@@ -19,21 +23,16 @@ fn encodings_right(codec: RoundedCodec, r: &[u8]) -> bool {
         x,
         PlaintextEmbedding::Centered,
     );
-    is(plain, refusal, little_endian::u32_at(r, 19))
-        && is(centered, refusal, little_endian::u32_at(r, 23))
-        && is(
-            sum,
-            little_endian::u8_at(r, 27),
-            little_endian::u32_at(r, 28),
-        )
+    is(plain, expected(r, 18, 19))
+        && is(centered, expected(r, 18, 23))
+        && is(sum, expected(r, 27, 28))
 }
 
 fn decodings_right(codec: RoundedCodec, r: &[u8]) -> bool {
     let p = little_endian::u32_at(r, 9);
-    let refusal = little_endian::u8_at(r, 32);
-    let message = little_endian::u32_at(r, 33);
+    let message = expected(r, 32, 33);
     let decoder = MessageDecoder::from(codec);
-    is(codec.decode_value(p), refusal, message) && is(decoder.decode_value(p), refusal, message)
+    is(codec.decode_value(p), message) && is(decoder.decode_value(p), message)
 }
 
 // The library's explicit modulus 0 has no counterpart in the C call.
@@ -47,14 +46,14 @@ fn c_right(r: &[u8]) -> bool {
         little_endian::u32_at(r, 5),
         little_endian::u32_at(r, 9),
     );
-    let refusal = little_endian::u8_at(r, 32);
-    if refusal == 0 {
-        return answer == little_endian::u32_at(r, 33) as u64;
+    match expected(r, 32, 33) {
+        Ok(message) => answer == u64::from(message),
+        Err(number) => answer == 0x1_0000_0000 + u64::from(number),
     }
-    answer == 0x1_0000_0000 + refusal as u64
 }
 
 pub(crate) fn right(r: &[u8]) -> bool {
+    // Stays: the record's number of a refusal, 0 for none: no value stands beside it, and it is compared here alone.
     let refusal = little_endian::u8_at(r, 17);
     let calls_right = match RoundedCodec::try_new(
         little_endian::u32_at(r, 5),
