@@ -1,7 +1,7 @@
 -- What the checks of a call leave, by the number of a check that has passed.
 -- Assumes nothing.
 use mathlib.Core.Path.{◌≡◌, sym, ◌∙◌}
-use mathlib.Core.Bool.{false, ◌||◌}
+use mathlib.Core.Bool.{Bool, false, ◌||◌}
 use mathlib.Core.List.{List}
 use Prim.Native.Nat.{ℕ, ◌+◌, ◌-◌, ◌^◌, ◌<◌, ◌≤◌}
 use native.Mathlib.Omega.{arith}
@@ -26,14 +26,26 @@ moduli_least rows t e f = plaintext_ok t (sym f ∙ passed rows (sym e) 7 tt)
 pub moduli_below : (rows : List Check) (t : ℕ) (m : Modulus) → t < 2 ^ 32 → 0 ≡ refusal rows → applies rows 8 ≡ small_fails t (meant m) → t < size_of m
 moduli_below rows t m h e f = small_ok 32 t (meant m) h (sym f ∙ passed rows (sym e) 8 tt)
 
--- 12, of one ciphertext
-pub mask_ok : (mask errors n : ℕ) → (length_fails errors 1 || length_fails mask n) ≡ false → mask ≡ n
-mask_ok mask errors n twelve = length_ok _ _ (neither (length_fails mask n) (length_fails errors 1) twelve).0
+-- 9, 10, 11 and 12 of such checks
+pub record Lengths (nine ten eleven twelve : Bool) : Type 0 where
+  pub key : nine ≡ false
+  pub input : ten ≡ false
+  pub output : eleven ≡ false
+  pub lent : twelve ≡ false
 
--- 10, of one ciphertext: n is before its last place
-pub body_at : (words n : ℕ) → length_fails words (n + 1) ≡ false → words - 1 ≡ n
-body_at words n ten = omega (arith, length_ok words (n + 1) ten)
+pub lengths : (rows : List Check) → 0 ≡ refusal rows → Lengths (applies rows 9) (applies rows 10) (applies rows 11) (applies rows 12)
+lengths rows e =
+    let no = passed rows (sym e) in record { key = no 9 tt; input = no 10 tt; output = no 11 tt; lent = no 12 tt }
 
--- 11, of one ciphertext: there is room for the body after the mask
-pub room_ok : (room mask errors n : ℕ) → length_fails room (n + 1) ≡ false → (length_fails errors 1 || length_fails mask n) ≡ false → room ≡ mask + 1
-room_ok room mask errors n eleven twelve = omega (arith, length_ok room (n + 1) eleven, mask_ok mask errors n twelve)
+-- of one ciphertext: the mask is as long as the dimension
+pub mask_ok : (mask errors n : ℕ) {nine ten eleven : Bool} → Lengths nine ten eleven (length_fails errors 1 || length_fails mask n) → mask ≡ n
+mask_ok mask errors n passed = length_ok _ _ (neither (length_fails mask n) (length_fails errors 1) passed.lent).0
+
+-- n is before its last place
+pub body_at : (words n : ℕ) {nine eleven twelve : Bool} → Lengths nine (length_fails words (n + 1)) eleven twelve → words - 1 ≡ n
+body_at words n passed = omega (arith, length_ok words (n + 1) passed.input)
+
+-- and there is room for the body after the mask
+pub room_ok : (room mask errors n : ℕ) {nine ten : Bool} → Lengths nine ten (length_fails room (n + 1)) (length_fails errors 1 || length_fails mask n)
+    → room ≡ mask + 1
+room_ok room mask errors n passed = omega (arith, length_ok room (n + 1) passed.output, mask_ok mask errors n passed)

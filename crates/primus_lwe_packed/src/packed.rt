@@ -9,6 +9,7 @@ use lwe_tag::LweTag;
 use primus_reduce::Ring;
 
 // n mask words, then a body for each plaintext; no tally. Refuses by 2, 6, 9, 10, 11, 12, 13, 14, 15.
+#[tactic(auto, using(primus_lwe::proofs::Laws::ring_judged))]
 pub fn encrypt_encoded_packed(
     params: LweEncryptionParameters,
     secret: &[u32],
@@ -31,6 +32,7 @@ pub fn encrypt_encoded_packed(
 }
 
 // The phase of each body. Refuses by 2, 6, 9, 10, 11, 14.
+#[tactic(auto, using(primus_lwe::proofs::Laws::ring_judged))]
 pub fn decrypt_phase_packed(
     params: LwePhaseParameters,
     secret: &[u32],

@@ -6,7 +6,7 @@
 --     public_phase_lem                   under a public key that the call wrote; public_message_phase: a message
 -- The laws behind them speak of the definitions, where the call has no refusal.
 -- Assumes nothing.
-use mathlib.Core.Path.{◌≡◌}
+use mathlib.Core.Path.{◌≡◌, sym}
 use mathlib.Core.List.{List}
 use Prim.Native.Nat.{ℕ, ◌*◌, ◌<◌}
 use native.Mathlib.Omega.{arith}
@@ -28,7 +28,7 @@ use Rattle.lwe_parameters.specs.declared.parameter.LweEncryptionParameters.{LweE
 use Rattle.lwe_parameters.specs.declared.parameter.LweParameters.{LweParameters}
 use Rattle.lwe_refusals.specs.Rows.{encrypt_rows, message_rows}
 use Rattle.primus_lwe.specs.Answers.{encoded, encodings, Encrypts, EncryptsMessage}
-use Rattle.primus_lwe.proofs.Laws.{positive, mask_ok}
+use Rattle.primus_lwe.proofs.Laws.{positive, lengths, mask_ok}
 use Rattle.lwe_batch_refusals.specs.Rows.{encrypt_batch_rows}
 use Rattle.primus_lwe_batch.specs.Answers.{EncryptsBatch}
 use Rattle.lwe_packed_refusals.specs.Rows.{packed_rows, packed_message_rows}
@@ -47,7 +47,7 @@ module _ (P : LweEncryptionParameters) (key : Key) (a : List ℕ) (es : List ℤ
       (pos p +ℤ get_or es 0 (pos 0))
   encrypt_accepted room e =
       let no = passed (encrypt_rows P key a es p room) e in
-      phase_fresh (size_of P.modulus) (positive P.modulus (no 2 tt)) P.dimension.0 a (secret_of key) (mask_ok (length a) (length es) P.dimension.0 (no 12 tt)) (get_or es 0 (pos 0)) (pos p)
+      phase_fresh (size_of P.modulus) (positive P.modulus (no 2 tt)) P.dimension.0 a (secret_of key) (mask_ok (length a) (length es) P.dimension.0 (lengths (encrypt_rows P key a es p room) (sym e))) (get_or es 0 (pos 0)) (pos p)
 
   pub encrypt_phase : {before after : List ℕ} {tag : LweTag} → Encrypts P key a es p before (Ok tag) after
       → HasPhase (size_of P.modulus) P.dimension.0 after (secret_of key) (pos p +ℤ get_or es 0 (pos 0))
@@ -60,7 +60,7 @@ module _ (P : LweParameters) (g : PlaintextEmbedding) (key : Key) (a : List ℕ)
       (encoded g P x +ℤ get_or es 0 (pos 0))
   message_accepted room e =
       let no = passed (message_rows P key a es x room) e in
-      phase_fresh (size_of P.modulus) (positive P.modulus (no 2 tt)) P.dimension.0 a (secret_of key) (mask_ok (length a) (length es) P.dimension.0 (no 12 tt)) (get_or es 0 (pos 0)) (encoded g P x)
+      phase_fresh (size_of P.modulus) (positive P.modulus (no 2 tt)) P.dimension.0 a (secret_of key) (mask_ok (length a) (length es) P.dimension.0 (lengths (message_rows P key a es x room) (sym e))) (get_or es 0 (pos 0)) (encoded g P x)
 
   pub message_phase : {before after : List ℕ} {tag : LweTag} → EncryptsMessage P g key a es x before (Ok tag) after
       → HasPhase (size_of P.modulus) P.dimension.0 after (secret_of key) (encoded g P x +ℤ get_or es 0 (pos 0))
@@ -98,7 +98,7 @@ module _ (P : LweEncryptionParameters) (s a : List ℕ) (es : List ℤ) (ps : Li
       (packed (size_of P.modulus) P.dimension.0 (length ps) a (words s) (signed es) (words ps)) (words s) i (words ps i +ℤ signed es i)
   packed-accepted room e i h =
       let no = passed (packed_rows P s a es ps room) e in
-      let k = pack_ok P.dimension.0 (length s) (length a) (length es) (length ps) room (no 9 tt) (no 10 tt) (no 11 tt) (no 12 tt) in
+      let k = pack_ok P.dimension.0 (length s) (length a) (length es) (length ps) room (lengths (packed_rows P s a es ps room) (sym e)) in
       phase-packed (size_of P.modulus) (positive P.modulus (no 2 tt)) P.dimension.0 a (words s) k.each (length ps) (signed es) (words ps) i (omega (arith, k.most, k.each)) h
 
   pub packed-phase : {before after : List ℕ} {tag : LweTag} → EncryptsPacked P s a es ps before (Ok tag) after → (i : ℕ) → i < length ps
@@ -111,7 +111,7 @@ module _ (P : LweParameters) (g : PlaintextEmbedding) (s a : List ℕ) (es : Lis
       (packed (size_of P.modulus) P.dimension.0 (length xs) a (words s) (signed es) (encodings g P xs)) (words s) i (encodings g P xs i +ℤ signed es i)
   packed_message_accepted room e i h =
       let no = passed (packed_message_rows P s a es xs room) e in
-      let k = pack_ok P.dimension.0 (length s) (length a) (length es) (length xs) room (no 9 tt) (no 10 tt) (no 11 tt) (no 12 tt) in
+      let k = pack_ok P.dimension.0 (length s) (length a) (length es) (length xs) room (lengths (packed_message_rows P s a es xs room) (sym e)) in
       phase-packed (size_of P.modulus) (positive P.modulus (no 2 tt)) P.dimension.0 a (words s) k.each (length xs) (signed es) (encodings g P xs) i (omega (arith, k.most, k.each)) h
 
   pub packed_message_phase : {before after : List ℕ} {tag : LweTag} → EncryptsPackedMessages P g s a es xs before (Ok tag) after → (i : ℕ) → i < length xs

@@ -42,7 +42,7 @@ use Rattle.lwe_parameters.specs.declared.parameter.LweParameters.{LweParameters}
 use Rattle.lwe_parameters.specs.Answers.{phases_of, decryption_of}
 use Rattle.lwe_refusals.specs.Rows.{encrypt_rows, phase_rows, message_rows, decrypt_rows}
 use Rattle.primus_lwe.specs.Answers.{encoded, encodings, Encrypts, TakesPhase, EncryptsMessage, Decrypts}
-use Rattle.primus_lwe.proofs.Laws.{positive, mask_ok}
+use Rattle.primus_lwe.proofs.Laws.{positive, lengths, mask_ok}
 use Rattle.primus_lwe.proofs.Coded.{phase-below}
 use Rattle.lwe_batch_refusals.specs.Rows.{encrypt_batch_rows, decrypt_batch_rows}
 use Rattle.primus_lwe_batch.specs.Answers.{batch_phase, EncryptsBatch, DecryptsBatch}
@@ -86,7 +86,7 @@ module _ (P : LweEncryptionParameters) (key : Key) (a : List ℕ) (es : List ℤ
       let q = size_of P.modulus in
       let no = passed (encrypt_rows P key a es p room) e in
       let (keyed, masked) = neither (key_fails q key) (words_fail q a) (neither (word_fails q p) (words_fail q a || key_fails q key) (no 14 tt)).1 in
-      let f = fresh_fits q P.dimension.0 a (secret_of key) (get_or es 0 (pos 0)) (pos p) (positive P.modulus (no 2 tt)) (mask_ok (length a) (length es) P.dimension.0 (no 12 tt)) masked in
+      let f = fresh_fits q P.dimension.0 a (secret_of key) (get_or es 0 (pos 0)) (pos p) (positive P.modulus (no 2 tt)) (mask_ok (length a) (length es) P.dimension.0 (lengths (encrypt_rows P key a es p room) (sym e))) masked in
       rw (no 2 tt, no 6 tt, no 9 tt, f.0, keyed, f.1)
 
   pub phase-answered : {before after : List ℕ} {tag : LweTag} {answer : Result ℕ Refusal} → Encrypts P key a es p before (Ok tag) after → TakesPhase (phases_of P) key after answer
@@ -107,7 +107,7 @@ module _ (P : LweParameters) (g : PlaintextEmbedding) (key : Key) (a : List ℕ)
       let q = size_of P.modulus in
       let no = passed (message_rows P key a es x room) e in
       let (keyed, masked) = neither (key_fails q key) (words_fail q a) (no 14 tt) in
-      let f = fresh_fits q P.dimension.0 a (secret_of key) (get_or es 0 (pos 0)) (encoded g P x) (positive P.modulus (no 2 tt)) (mask_ok (length a) (length es) P.dimension.0 (no 12 tt)) masked in
+      let f = fresh_fits q P.dimension.0 a (secret_of key) (get_or es 0 (pos 0)) (encoded g P x) (positive P.modulus (no 2 tt)) (mask_ok (length a) (length es) P.dimension.0 (lengths (message_rows P key a es x room) (sym e))) masked in
       rw (no 2 tt, no 6 tt, no 7 tt, no 8 tt, no 9 tt, f.0, keyed, f.1)
 
   -- an accepted error is within ±E
@@ -122,7 +122,7 @@ module _ (P : LweParameters) (g : PlaintextEmbedding) (key : Key) (a : List ℕ)
       → decode (size_of P.modulus) P.plaintext_modulus (phase_of (size_of P.modulus) P.dimension.0 ciphertext_of (secret_of key)) ≡ x
   decoded-accepted room e h =
       let no = passed (message_rows P key a es x room) e in
-      opens_fresh (size_of P.modulus) (positive P.modulus (no 2 tt)) P.dimension.0 a (secret_of key) (mask_ok (length a) (length es) P.dimension.0 (no 12 tt)) (meant_embedding g) P.plaintext_modulus x P.error_limit
+      opens_fresh (size_of P.modulus) (positive P.modulus (no 2 tt)) P.dimension.0 a (secret_of key) (mask_ok (length a) (length es) P.dimension.0 (lengths (message_rows P key a es x room) (sym e))) (meant_embedding g) P.plaintext_modulus x P.error_limit
       (get_or es 0 (pos 0)) (message_ok _ x (no 16 tt)) h (within room e)
 
   pub opens : 2 * P.plaintext_modulus * P.error_limit + P.plaintext_modulus < size_of P.modulus

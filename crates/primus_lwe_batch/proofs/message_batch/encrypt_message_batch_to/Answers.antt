@@ -3,6 +3,7 @@ use Rattle.scheme.proofs.Checks.{length_ok}
 use Rattle.scheme.proofs.Order.{passed}
 use Rattle.check_order.proofs.Answers.{handed_on}
 use Rattle.lwe_tag.proofs.Writes.{refused, done}
+use Rattle.primus_lwe.proofs.Laws.{lengths}
 use Rattle.primus_lwe_batch.proofs.Laws.{run_ok}
 use Rattle.primus_lwe_batch.proofs.message_batch.encrypt_message_batch_to.Goals as goal
 
@@ -11,9 +12,9 @@ returns-in_err-encrypt_refusal c = rw (handed_on _ c.from_residual.ensures.1) (r
 
 pub write_messages-requires : goal.write_messages-requires
 write_messages-requires c =
-    let no = passed _ (sym c.in_ok-encrypt_refusal.ensures) in (run_ok _ _ _ _ _ _ (no 9 tt) (no 11 tt) (no 12 tt), no 16 tt)
+    let told = c.in_ok-encrypt_refusal.ensures in (run_ok _ _ _ _ _ _ (lengths _ told), passed _ (sym told) 16 tt)
 
 pub returns : goal.returns
 returns c =
-    let key = length_ok (length c.args.secret.now) _ (passed _ (sym c.in_ok-encrypt_refusal.ensures) 9 tt) in
-    record { writes = done c.in_ok-encrypt_refusal.ensures (rw c.from.ensures at c.with_tally.ensures) (rw key at c.write_messages.ensures) }
+    let p = lengths _ c.in_ok-encrypt_refusal.ensures in
+    record { writes = done c.in_ok-encrypt_refusal.ensures (rw c.from.ensures at c.with_tally.ensures) (rw (length_ok (length c.args.secret.now) _ p.key) at c.write_messages.ensures) }

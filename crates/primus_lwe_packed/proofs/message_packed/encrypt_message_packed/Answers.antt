@@ -3,6 +3,7 @@ use Rattle.scheme.proofs.Order.{passed}
 use Rattle.check_order.proofs.Answers.{handed_on}
 use Rattle.lwe_tag.proofs.Writes.{refused, done}
 use Rattle.primus_lwe.specs.Answers.{encodings}
+use Rattle.primus_lwe.proofs.Laws.{lengths}
 use Rattle.primus_lwe_packed.proofs.Laws.{pack_ok, packed_held}
 use Rattle.primus_lwe_packed.proofs.message_packed.encrypt_message_packed.Goals as goal
 
@@ -10,22 +11,23 @@ pub returns-in_err-packed_message_refusal : goal.returns-in_err-packed_message_r
 returns-in_err-packed_message_refusal c = rw (handed_on _ c.from_residual.ensures.1) (record { writes = refused c.in_err-packed_message_refusal.ensures })
 
 pub split_at_mut-bodies-requires : goal.split_at_mut-bodies-requires
-split_at_mut-bodies-requires c = let no = passed _ (sym c.in_ok-packed_message_refusal.ensures) in let p = pack_ok _ _ _ _ _ _ (no 9 tt) (no 10 tt) (no 11 tt) (no 12 tt) in omega (arith, p.fits)
+split_at_mut-bodies-requires c = let p = pack_ok _ _ _ _ _ _ (lengths _ c.in_ok-packed_message_refusal.ensures) in omega (arith, p.fits)
 
 pub write_encodings-requires : goal.write_encodings-requires
-write_encodings-requires c = let no = passed _ (sym c.in_ok-packed_message_refusal.ensures) in let p = pack_ok _ _ _ _ _ _ (no 9 tt) (no 10 tt) (no 11 tt) (no 12 tt) in (omega (arith, p.fits, c.split_at_mut-bodies.ensures.back_len), no 16 tt)
+write_encodings-requires c =
+    let told = c.in_ok-packed_message_refusal.ensures in
+    let p = pack_ok _ _ _ _ _ _ (lengths _ told) in
+    (omega (arith, p.fits, c.split_at_mut-bodies.ensures.back_len), passed _ (sym told) 16 tt)
 
 pub write_packed-requires : goal.write_packed-requires
 write_packed-requires c =
-    let no = passed _ (sym c.in_ok-packed_message_refusal.ensures) in
-    let p = pack_ok _ _ _ _ _ _ (no 9 tt) (no 10 tt) (no 11 tt) (no 12 tt) in
+    let p = pack_ok _ _ _ _ _ _ (lengths _ c.in_ok-packed_message_refusal.ensures) in
     let l = length-append c.split_at_mut-bodies.result.0.now c.write_encodings.new.bodies in
     (p.keys, omega (arith, l), omega (arith, l, p.fits, p.most))
 
 pub returns : goal.returns
 returns c =
-    let no = passed _ (sym c.in_ok-packed_message_refusal.ensures) in
-    let p = pack_ok _ _ _ _ _ _ (no 9 tt) (no 10 tt) (no 11 tt) (no 12 tt) in
+    let p = pack_ok _ _ _ _ _ _ (lengths _ c.in_ok-packed_message_refusal.ensures) in
     record {
       writes =
           done c.in_ok-packed_message_refusal.ensures c.none.ensures

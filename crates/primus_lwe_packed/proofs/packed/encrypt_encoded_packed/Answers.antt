@@ -1,35 +1,30 @@
-use Rattle.std.proofs.Common.{sym, ap, length, length-append, arith, ◌∙◌}
+use Rattle.std.proofs.Common.{ap, length, length-append, arith, ◌∙◌}
 use Rattle.scheme.specs.Lwe.{words}
-use Rattle.scheme.proofs.Order.{passed}
 use Rattle.check_order.proofs.Answers.{handed_on}
 use Rattle.lwe_tag.proofs.Writes.{refused, done}
-use Rattle.primus_lwe.proofs.Laws.{positive}
+use Rattle.primus_lwe.proofs.Laws.{lengths}
 use Rattle.primus_lwe_packed.proofs.Laws.{pack_ok, packed_held}
 use Rattle.primus_lwe_packed.proofs.packed.encrypt_encoded_packed.Goals as goal
 
 pub returns-in_err-packed_refusal : goal.returns-in_err-packed_refusal
 returns-in_err-packed_refusal c = rw (handed_on _ c.from_residual.ensures.1) (record { writes = refused c.in_err-packed_refusal.ensures })
 
-pub invariant_of-ring : goal.invariant_of-ring
-invariant_of-ring c = record { positive = positive c.args.params.modulus (passed _ (sym c.in_ok-packed_refusal.ensures) 2 tt) }
-
 pub split_at_mut-bodies-requires : goal.split_at_mut-bodies-requires
-split_at_mut-bodies-requires c = let no = passed _ (sym c.in_ok-packed_refusal.ensures) in let p = pack_ok _ _ _ _ _ _ (no 9 tt) (no 10 tt) (no 11 tt) (no 12 tt) in omega (arith, p.fits)
+split_at_mut-bodies-requires c = let p = pack_ok _ _ _ _ _ _ (lengths _ c.in_ok-packed_refusal.ensures) in omega (arith, p.fits)
 
 pub copy_from_slice-requires : goal.copy_from_slice-requires
-copy_from_slice-requires c = let no = passed _ (sym c.in_ok-packed_refusal.ensures) in let p = pack_ok _ _ _ _ _ _ (no 9 tt) (no 10 tt) (no 11 tt) (no 12 tt) in omega (arith, p.fits, c.split_at_mut-bodies.ensures.back_len)
+copy_from_slice-requires c =
+    let p = pack_ok _ _ _ _ _ _ (lengths _ c.in_ok-packed_refusal.ensures) in omega (arith, p.fits, c.split_at_mut-bodies.ensures.back_len)
 
 pub write_packed-requires : goal.write_packed-requires
 write_packed-requires c =
-    let no = passed _ (sym c.in_ok-packed_refusal.ensures) in
-    let p = pack_ok _ _ _ _ _ _ (no 9 tt) (no 10 tt) (no 11 tt) (no 12 tt) in
+    let p = pack_ok _ _ _ _ _ _ (lengths _ c.in_ok-packed_refusal.ensures) in
     let l = length-append c.split_at_mut-bodies.result.0.now c.copy_from_slice.new.self in
     (p.keys, omega (arith, l), omega (arith, l, p.fits, p.most))
 
 pub returns : goal.returns
 returns c =
-    let no = passed _ (sym c.in_ok-packed_refusal.ensures) in
-    let p = pack_ok _ _ _ _ _ _ (no 9 tt) (no 10 tt) (no 11 tt) (no 12 tt) in
+    let p = pack_ok _ _ _ _ _ _ (lengths _ c.in_ok-packed_refusal.ensures) in
     record {
       writes =
           done c.in_ok-packed_refusal.ensures c.none.ensures

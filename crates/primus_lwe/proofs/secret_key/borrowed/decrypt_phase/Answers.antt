@@ -1,7 +1,5 @@
-use Rattle.std.proofs.Common.{sym}
-use Rattle.scheme.proofs.Order.{passed}
 use Rattle.check_order.proofs.Answers.{handed_on, refused, served}
-use Rattle.primus_lwe.proofs.Laws.{body_at}
+use Rattle.primus_lwe.proofs.Laws.{lengths, body_at}
 use Rattle.primus_lwe.proofs.secret_key.borrowed.decrypt_phase.Goals as goal
 
 pub returns-in_err-decrypt_refusal : goal.returns-in_err-decrypt_refusal
@@ -9,4 +7,4 @@ returns-in_err-decrypt_refusal c = rw (handed_on _ c.from_residual.ensures.1) (r
 
 pub returns : goal.returns
 returns c =
-    record { is = served _ _ _ c.in_ok-decrypt_refusal.ensures (rw (body_at _ _ (passed _ (sym c.in_ok-decrypt_refusal.ensures) 10 tt)) at c.phase.ensures) }
+    record { is = served _ _ _ c.in_ok-decrypt_refusal.ensures (rw (body_at _ _ (lengths _ c.in_ok-decrypt_refusal.ensures)) at c.phase.ensures) }

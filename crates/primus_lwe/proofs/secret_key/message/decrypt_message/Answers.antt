@@ -1,9 +1,8 @@
-use Rattle.std.proofs.Common.{sym, ap, ◌∙◌}
+use Rattle.std.proofs.Common.{ap, ◌∙◌}
 use Rattle.scheme.specs.Codec.{decode}
-use Rattle.scheme.proofs.Order.{passed}
 use Rattle.check_order.proofs.Answers.{handed_on, refused, served}
 use Rattle.primus_reduce.specs.Ring.{size_of}
-use Rattle.primus_lwe.proofs.Laws.{body_at}
+use Rattle.primus_lwe.proofs.Laws.{lengths, body_at}
 use Rattle.primus_lwe.proofs.secret_key.message.decrypt_message.Goals as goal
 
 pub returns-in_err-decrypt_refusal : goal.returns-in_err-decrypt_refusal
@@ -13,6 +12,5 @@ returns-in_err-decrypt_refusal c =
 pub returns : goal.returns
 returns c =
     let accepted = rw c.into.ensures at c.in_ok-decrypt_refusal.ensures in
-    let no = passed _ (sym accepted) in
-    let phase = rw (c.ring.ensures, body_at _ _ (no 10 tt)) at c.phase.ensures in
+    let phase = rw (c.ring.ensures, body_at _ _ (lengths _ accepted)) at c.phase.ensures in
     record { is = served _ _ _ accepted (c.decode.ensures ∙ ap (decode (size_of c.args.params.modulus) c.args.params.plaintext_modulus) phase) }

@@ -3,6 +3,7 @@ use Rattle.scheme.proofs.Checks.{message_ok}
 use Rattle.scheme.proofs.Order.{passed}
 use Rattle.check_order.proofs.Answers.{handed_on}
 use Rattle.lwe_tag.proofs.Writes.{refused, done}
+use Rattle.primus_lwe.proofs.Laws.{lengths}
 use Rattle.primus_lwe_public_key.proofs.Laws.{lent_ok, public_ok}
 use Rattle.primus_lwe_public_key.proofs.public_key.LwePublicKey.encrypt_message_to.Goals as goal
 
@@ -14,14 +15,13 @@ encode_as-plaintext-requires c = message_ok _ _ (passed _ (sym c.in_ok-public_me
 
 pub write_public-requires : goal.write_public-requires
 write_public-requires c =
-    let no = passed _ (sym c.in_ok-public_message_refusal.ensures) in
-    public_ok _ c.args.errors.now c.args.coefficients.now _ _ c.args.params.error_limit (no 9 tt) (no 11 tt) (no 12 tt) (no 15 tt)
+    let told = c.in_ok-public_message_refusal.ensures in
+    public_ok _ c.args.errors.now c.args.coefficients.now _ _ c.args.params.error_limit (lengths _ told) (passed _ (sym told) 15 tt)
 
 pub returns : goal.returns
 returns c =
-    let no = passed _ (sym c.in_ok-public_message_refusal.ensures) in
     record {
       writes =
           done c.in_ok-public_message_refusal.ensures c.none.ensures
-          (rw (c.ring.ensures, lent_ok (length c.args.coefficients.now) _ _ _ (no 12 tt), c.encode_as-plaintext.ensures) at c.write_public.ensures);
+          (rw (c.ring.ensures, lent_ok (length c.args.coefficients.now) _ _ _ (lengths _ c.in_ok-public_message_refusal.ensures), c.encode_as-plaintext.ensures) at c.write_public.ensures);
     }
