@@ -39,6 +39,7 @@ fn opening_refusal(
 }
 
 // What refuses phases of a packed ciphertext.
+// Stays, as the next, beside `opening_refusal`: each promises the rows that the promise of its call names.
 pub fn packed_phase_refusal(
     params: LwePhaseParameters,
     secret: &[u32],

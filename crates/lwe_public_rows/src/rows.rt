@@ -12,7 +12,7 @@ use lwe_secret_key::LweSecretKeyRef;
 use primus_reduce::{Factor, Ring};
 use std::cmp::Ordering;
 
-// n encryptions of 0, row i with mask i and error i. Stays: n beside the masks, as in `encrypt_row`.
+// n encryptions of 0, row i with mask i and error i. Stays: n beside the masks, as said of `encrypt_row` of lwe_secret_key.
 pub fn write_zeros(
     out: &mut [u32],
     key: LweSecretKeyRef,

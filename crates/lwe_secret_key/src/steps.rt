@@ -29,6 +29,7 @@ pub fn body(sum: u32, error: u32, plaintext: u32, ring: Ring) -> u32
 }
 
 // The mask, and the body ⟨a, s⟩ + e + p with lent error i. A function, no method: a user may call nothing that has a `requires`.
+// Stays: errors and i, here and for a row, and no error by itself: in this step alone an error becomes a residue.
 #[tactic(auto, using(crate::proofs::Laws::encrypted_is))]
 pub fn encrypt_to(
     key: LweSecretKeyRef,
@@ -49,7 +50,7 @@ pub fn encrypt_to(
 }
 
 // Row i in its place, with mask i and error i.
-// Stays: n beside the masks, whose length is that of all rows; a key of another length counts as 0 past its end.
+// Stays: n beside the masks, whose length is that of all rows; a key's length is no n: any key is taken, and counts as 0 past its end.
 pub fn encrypt_row(
     key: LweSecretKeyRef,
     out: &mut [u32],
