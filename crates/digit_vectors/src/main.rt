@@ -25,6 +25,7 @@ impl State {
         self.wrong = self.wrong.wrapping_add(u64::from(!right));
     }
 
+    // Stays beside `count_basis`: another count, and to lend it beside `wrong` is no plainer.
     fn count_word(&mut self, right: bool) {
         self.words = self.words.wrapping_add(1);
         self.wrong = self.wrong.wrapping_add(u64::from(!right));
@@ -45,6 +46,7 @@ fn on_word(input: &mut impl Read, s: &mut State) -> bool {
     record.is_some()
 }
 
+// Stays beside `on_word`: a record of another length, and another function that reads it.
 fn on_short_word(input: &mut impl Read, s: &mut State) -> bool {
     let record = programs::record::<28>(input);
     let right = record.is_some_and(|r| word::compare(s.held, &Expected::short(&r)));
@@ -53,6 +55,7 @@ fn on_short_word(input: &mut impl Read, s: &mut State) -> bool {
 }
 
 // One record, and whether there may be more. The last is a zero byte; anything else is counted as wrong.
+// Stays: a match on the file's tag: each stands for a record of another length.
 // Stays beside `file` and `all` of the other vector programs: another count, and records of another kind.
 fn one(input: &mut impl Read, s: &mut State) -> bool {
     match programs::record::<1>(input).map(|tag| tag[0]) {

@@ -1,25 +1,28 @@
 // A word record: its reading and ε, and its digits by each call that gives them.
 use crate::basis::Held;
 use crate::bytes;
-use primus_decompose::{ApproxSignedBasis, Refusal, SignedDecomposer};
+use primus_decompose::{ApproxSignedBasis, Reading, Refusal, SignedDecomposer};
 
-// What a record expects of a word: the number of its refusal, or 0 and its reading, ε and digits, lowest first.
+// What a record expects of a word: its reading and ε, or the number of its refusal, and its digits, lowest first.
 #[derive(Clone, Copy)]
 pub struct Expected<'a> {
     word: u32,
-    refusal: u32,
-    reading: i64,
-    error: i64,
+    reading: Result<Reading, u32>,
     digits: &'a [u8],
 }
 
 impl<'a> Expected<'a> {
     pub(crate) fn new(r: &'a [u8]) -> Expected<'a> {
-        Expected {
-            word: little_endian::u32_at(r, 0),
-            refusal: little_endian::u8_at(r, 4),
+        let reading = Reading {
             reading: little_endian::u64_at(r, 5).cast_signed(),
             error: little_endian::u64_at(r, 13).cast_signed(),
+        };
+        Expected {
+            word: little_endian::u32_at(r, 0),
+            reading: match little_endian::u8_at(r, 4) {
+                0 => Ok(reading),
+                number => Err(number),
+            },
             digits: r.get(21..).unwrap_or(&[]),
         }
     }
@@ -28,21 +31,23 @@ impl<'a> Expected<'a> {
     pub(crate) fn short(r: &'a [u8]) -> Expected<'a> {
         Expected {
             word: little_endian::u32_at(r, 0),
-            refusal: 0,
-            reading: i64::from(little_endian::u32_at(r, 4).cast_signed()),
-            error: i64::from(little_endian::u32_at(r, 8).cast_signed()),
+            reading: Ok(Reading {
+                reading: i64::from(little_endian::u32_at(r, 4).cast_signed()),
+                error: i64::from(little_endian::u32_at(r, 8).cast_signed()),
+            }),
             digits: r.get(12..).unwrap_or(&[]),
         }
     }
 
     fn refuses_by(&self, refusal: Refusal) -> bool {
-        self.refusal == u32::from(refusal)
+        matches!(self.reading, Err(number) if number == u32::from(refusal))
     }
 
     fn reading_is(&self, b: ApproxSignedBasis) -> bool {
-        match b.reading(self.word) {
-            Ok(r) => self.refusal == 0 && r.reading == self.reading && r.error == self.error,
-            Err(refusal) => self.refuses_by(refusal),
+        match (b.reading(self.word), self.reading) {
+            (Ok(r), Ok(x)) => r.reading == x.reading && r.error == x.error,
+            (Err(refusal), _) => self.refuses_by(refusal),
+            _ => false,
         }
     }
 
@@ -60,7 +65,7 @@ impl<'a> Expected<'a> {
     // The digits by steps.
     fn walk_is(&self, b: ApproxSignedBasis, levels: usize) -> bool {
         match b.decomposer(self.word) {
-            Ok(d) => self.refusal == 0 && self.steps_are(d, levels),
+            Ok(d) => self.reading.is_ok() && self.steps_are(d, levels),
             Err(refusal) => self.refuses_by(refusal),
         }
     }
@@ -68,7 +73,7 @@ impl<'a> Expected<'a> {
     // The digits by `decompose`; a refusal leaves the sevens.
     fn digits_are(&self, b: ApproxSignedBasis, out: &mut [u32]) -> bool {
         match b.decompose(self.word, out) {
-            Ok(()) => self.refusal == 0 && bytes::run_is(out, self.digits),
+            Ok(()) => self.reading.is_ok() && bytes::run_is(out, self.digits),
             Err(refusal) => self.refuses_by(refusal) && unchanged(out),
         }
     }
@@ -77,7 +82,7 @@ impl<'a> Expected<'a> {
     fn runs_are(&self, b: ApproxSignedBasis, out: &mut [u32]) -> bool {
         let words = [self.word, 0, self.word];
         match b.decompose_slice_to(&words, out) {
-            Ok(()) => self.refusal == 0 && bytes::ends_are(out, self.digits),
+            Ok(()) => self.reading.is_ok() && bytes::ends_are(out, self.digits),
             Err(refusal) => self.refuses_by(refusal) && unchanged(out),
         }
     }
