@@ -10,6 +10,7 @@ use pooling_refusals::{begin_refusal, total_refusal};
 // Stays: tallies beside the words, as numbers of tags: a box lends the two rooms, and saves them so.
 // The ciphertexts of a file as a total, and their tallies, whatever stood there. The E of its head is not read.
 // Refuses by 19, 2, 6, 7, 8, 10, 12, 14, 17.
+#[tactic(auto, using(scheme::proofs::Lists::is_tabulate))]
 pub fn begin_saved(
     params: LweDecryptionParameters,
     bytes: &[u8],

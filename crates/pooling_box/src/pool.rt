@@ -6,6 +6,7 @@ use pooling::{LweDecryptionParameters, add_saved, begin_saved};
 use primus_lattice::LweTag;
 
 // The words of the total, the number of a tag for each place, and how many rows were added.
+// Stays: tallies as numbers of tags, beside the words: `pooling` takes both so.
 #[derive(Drop)]
 pub(crate) struct Pool<'a> {
     pub(crate) params: LweDecryptionParameters,

@@ -18,18 +18,10 @@ pub(crate) fn told(rt: &impl Print, name: &str, answer: Result<(), Refusal>) {
     }
 }
 
-fn unknown(stored: Stored) -> &'static str {
-    match stored {
-        Stored::Missing => "there is no such file, or it cannot be opened",
-        Stored::Broken => "not a whole file of this layout: cut off, too long or another one",
-        Stored::Whole => "a file of another kind, modulus or plaintext modulus",
-    }
-}
-
 // What became of a file: for 19, in words, what stands under its name.
 pub(crate) fn told_file(rt: &impl Print, name: &str, answer: Result<(), Refusal>, stored: Stored) {
     if answer == Err(Refusal::Unreadable) {
-        let _ = println!(rt; "{name}: refused 19: {}", unknown(stored));
+        let _ = println!(rt; "{name}: refused 19: {stored}");
         return;
     }
     told(rt, name, answer);

@@ -12,7 +12,7 @@ use primus_lattice::{LweDimension, add_assign};
 use primus_reduce::Modulus;
 
 // The words of a file from word `at` on, as many as the buffer holds.
-// Stays beside `saved::words_to`, which begins at word 0 and whose promise is the words of a file; `at` is a place and no length.
+// Stays beside `saved::words_to`, which begins at word 0: this begins at any, and asks that no place overflows.
 #[tactic(auto, using(scheme::proofs::Lists::is_tabulate))]
 fn words_from(out: &mut [u32], bytes: &[u8], at: usize)
     requires { at + length out.old < 2 ^ 64 }

@@ -3,4 +3,4 @@
 
 mod words;
 
-pub use words::{signed_at, tag_at, word_at, words_to};
+pub use words::{SavedWord, signed_at, tag_at, word_at, words_to};

@@ -1,7 +1,7 @@
 // The words of a saved file, and what is saved beside them.
-ghost use Rattle.std.specs.Prelude.{◌≡◌, ◌+◌, ◌*◌, ◌^◌, ◌≤◌, pos, ◌-ℤ◌, length};
+ghost use Rattle.std.specs.Prelude.{◌≡◌, ℕ, ◌+◌, ◌*◌, ◌^◌, ◌<◌, ◌≤◌, pos, ◌-ℤ◌, length, get_or};
 ghost use Rattle.little_endian.specs.Bytes.{word64};
-ghost use Rattle.saved.specs.Layout.{file_word, file_words, signed_word, held_number, saved_tag};
+ghost use Rattle.saved.specs.Layout.{file_word, signed_word, held_number, saved_tag};
 
 use lwe_tag::LweTag;
 
@@ -13,16 +13,6 @@ pub fn word_at(bytes: &[u8], i: usize) -> u32
     little_endian::u32_at(bytes, i.saturating_mul(4).saturating_add(64))
 }
 
-// The first words, as many as the buffer holds.
-#[tactic(auto, using(scheme::proofs::Lists::is_tabulate))]
-pub fn words_to(bytes: &[u8], out: &mut [u32])
-    ensures { out.new ≡ file_words bytes.now (length out.old) }
-{
-    for (i, word) in out.iter_mut().enumerate() {
-        *word = word_at(bytes, i);
-    }
-}
-
 // Word i as a signed number of the same bits: w, or w − 2^32 from 2^31 on.
 #[tactic(auto, using(crate::proofs::Laws::same_bits))]
 pub fn signed_at(bytes: &[u8], i: usize) -> i32
@@ -31,7 +21,44 @@ pub fn signed_at(bytes: &[u8], i: usize) -> i32
     word_at(bytes, i).cast_signed()
 }
 
-// Eight bytes at base + 8i, as for words. Stays: another width, and a base that the head gives.
+// A word of a file as a room keeps it.
+pub trait SavedWord: Copy {
+    // What the word w is there.
+    ghost kept: { ℕ → Self };
+
+    fn at(bytes: &[u8], i: usize) -> Self
+        ensures { result ≡ kept (file_word bytes.now i) };
+}
+
+impl SavedWord for u32 {
+    ghost kept = { λ w. w };
+
+    fn at(bytes: &[u8], i: usize) -> u32 {
+        word_at(bytes, i)
+    }
+}
+
+// The signed number of the same bits.
+impl SavedWord for i32 {
+    ghost kept = { signed_word };
+
+    fn at(bytes: &[u8], i: usize) -> i32 {
+        signed_at(bytes, i)
+    }
+}
+
+// The first words, as many as the buffer holds.
+pub fn words_to<W: SavedWord>(bytes: &[u8], out: &mut [W])
+    ensures { (length out.new ≡ length out.old)
+        × ((k : ℕ) → k < length out.old → get_or out.new k (W.kept 0) ≡ W.kept (file_word bytes.now k)) }
+{
+    for (i, word) in out.iter_mut().enumerate() {
+        *word = W::at(bytes, i);
+    }
+}
+
+// Eight bytes at base + 8i, as for words.
+// Stays beside `word_at`: another width, and a base that the head gives.
 #[tactic(auto, using(crate::proofs::Laws::number_capped))]
 fn number_at(bytes: &[u8], base: usize, i: usize) -> u64
     ensures { result ≡ word64 bytes.now (base + 8 * i) }

@@ -1,14 +1,15 @@
 // Saved files, read whole into rooms that the caller lends.
 #![tactic(auto)]
 
-ghost use Rattle.std.specs.Prelude.{◌≡◌, ℕ, MatchOption};
+ghost use Rattle.std.specs.Prelude.{◌≡◌, MatchOption};
 ghost use Rattle.scheme.specs.Numbers.{pick};
 ghost use Rattle.saved_head.specs.Head.{file_fails};
-ghost use Rattle.saved.specs.Layout.{file_word, signed_word};
 
 use check_order::Refusal;
 use lwe_tag::LweTag;
+pub use saved::SavedWord;
 use saved_head::Head;
+use std::fmt;
 use std::rt::Files;
 
 // The programs take files of at most 65,536 bytes. A room has one byte more: no whole file has that length, so a
@@ -24,6 +25,17 @@ pub enum Stored {
     Whole,
 }
 
+// Why 19 refuses it.
+impl fmt::Display for Stored {
+    fn fmt<W: fmt::Write>(&self, f: &mut fmt::Formatter<W>) -> fmt::Result {
+        f.write_str(match self {
+            Stored::Missing => "there is no such file, or it cannot be opened",
+            Stored::Broken => "not a whole file of this layout: cut off, too long or another one",
+            Stored::Whole => "a file of another kind, modulus or plaintext modulus",
+        })
+    }
+}
+
 // A file's refusal and why, its head, the tag of its first ciphertext, the checksum of its bytes, its words, and the room that they
 // stand in, with what follows them in the file and then zeros.
 // Stays: no Result: of a refused file the head, the tag and the checksum are told too.
@@ -36,32 +48,6 @@ pub struct Loaded<'a, W> {
     pub checksum: u32,
     pub words: &'a [W],
     pub room: &'a [W],
-}
-
-// A word of a file as a room keeps it.
-pub trait SavedWord: Copy {
-    // What the word w is there.
-    ghost kept: { ℕ → Self };
-
-    fn at(bytes: &[u8], i: usize) -> Self
-        ensures { result ≡ kept (file_word bytes.now i) };
-}
-
-impl SavedWord for u32 {
-    ghost kept = { λ w. w };
-
-    fn at(bytes: &[u8], i: usize) -> u32 {
-        saved::word_at(bytes, i)
-    }
-}
-
-// The signed number of the same bits.
-impl SavedWord for i32 {
-    ghost kept = { signed_word };
-
-    fn at(bytes: &[u8], i: usize) -> i32 {
-        saved::signed_at(bytes, i)
-    }
 }
 
 fn checksum(bytes: &[u8]) -> u32 {
@@ -93,9 +79,7 @@ pub fn load<'a, W: SavedWord>(
     let file = programs::read_file(rt, name, &mut room);
     let bytes = file.unwrap_or(&[]);
     let head = saved_head::head_of(bytes);
-    for (i, word) in words.iter_mut().enumerate() {
-        *word = W::at(bytes, i);
-    }
+    saved::words_to(bytes, words);
     let count = words.len().min(head.words as usize);
     Loaded {
         refusal: saved_head::file_refusal(bytes),
