@@ -9,7 +9,8 @@ use saved_files::{Loaded, SavedWord};
 use saved_head::{Head, Kind};
 use std::alloc::AllocError;
 
-// What stands where no message could be opened: it differs from every message. Stays: a word, compared with those saved.
+// What stands where no message could be opened: it differs from every message.
+// Stays: a word, compared with those saved.
 const NONE: u32 = u32::MAX;
 
 fn parameters(h: Head) -> Result<LweDecryptionParameters, Refusal> {

@@ -2,6 +2,7 @@
 use check_order::Refusal;
 use saved_files::{Loaded, SavedWord};
 use std::alloc::AllocError;
+use std::fmt;
 
 // What is wrong with a file: a call refuses it, or it is not as saved.
 #[derive(Clone, Copy)]
@@ -13,6 +14,16 @@ pub(crate) enum Fault {
 impl From<Refusal> for Fault {
     fn from(reason: Refusal) -> Fault {
         Fault::Refused(reason)
+    }
+}
+
+// The end of its line.
+impl fmt::Display for Fault {
+    fn fmt<W: fmt::Write>(&self, f: &mut fmt::Formatter<W>) -> fmt::Result {
+        match self {
+            Fault::Refused(reason) => write!(f, "REFUSED {}", u32::from(*reason)),
+            Fault::Differs => write!(f, "DIFFERS"),
+        }
     }
 }
 
@@ -66,8 +77,7 @@ impl Folder<'_> {
     pub(crate) fn end(self, good: &str, verdict: Result<(), Fault>) {
         let _ = match verdict {
             Ok(()) => println!(self.rt; "{good}"),
-            Err(Fault::Differs) => println!(self.rt; "DIFFERS"),
-            Err(Fault::Refused(reason)) => println!(self.rt; "REFUSED {}", u32::from(reason)),
+            Err(fault) => println!(self.rt; "{fault}"),
         };
     }
 }
