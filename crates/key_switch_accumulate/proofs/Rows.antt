@@ -51,12 +51,6 @@ module _ (q half d : ℕ) (acc entry : List ℕ) (l : Spare q half (half * q) d 
   word : (c : ℕ) → c < length acc → get_or entry c 0 ≤ q
   word c k = omega (arith, l.entries c (omega (arith, l.same)))
 
-  pub roomy_small : d < half → Roomy q d acc entry
-  roomy_small h = record { same = l.same; entries = l.entries; room = λ c k. omega (arith, l.room c k, mul-le-mul_right {m = d} {n = half} q (omega arith)) }
-
-  pub roomy_large : half ≤ d → Roomy q (q - d) acc entry
-  roomy_large h = record { same = l.same; entries = l.entries; room = λ c k. omega (arith, l.room c k, mul-le-mul_right {m = q - d} {n = half} q (l.digit.near h)) }
-
   pub less-small : d < half → (acc' : List ℕ) → acc' ≡ zip_with (λ x y. x + d * (q - y)) acc entry → Less q (half * q) d entry acc acc'
   less-small h acc' e =
       record {

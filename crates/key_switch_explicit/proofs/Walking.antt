@@ -2,12 +2,11 @@
 -- Assumes nothing.
 use mathlib.Core.Path.{◌≡◌, refl, sym, ◌∙◌, ap, subst}
 use mathlib.Core.List.{List, map}
-use Prim.Native.Nat.{ℕ, zero, suc, ◌+◌, ◌*◌, ◌-◌, ◌/◌, ◌%◌, ◌^◌, ◌<◌, ◌≤◌}
+use Prim.Native.Nat.{ℕ, ◌+◌, ◌*◌, ◌-◌, ◌/◌, ◌%◌, ◌^◌, ◌<◌, ◌≤◌}
 use native.Mathlib.Omega.{arith}
-use native.Mathlib.Nat.{mul-le-mul_right, mod-eq_of_lt}
+use native.Mathlib.Nat.{mul-le-mul_right}
 use lib.IntN.{pos}
 use lib.ListN.{length, get_or, length-map}
-use lib.Pow.{pow-lt}
 use Rattle.std.proofs.lemmas.List.{map-id}
 use Rattle.scheme.specs.Numbers.{residue, Cong}
 use Rattle.scheme.specs.Basis.{half}
@@ -114,15 +113,3 @@ module _ {p : PreparedBasis} {n m rows : ℕ} {input key : List ℕ} (sh : Shape
         walking_on {acc₂} d =
             let e : Reached p n m rows (i + 1) input key acc₂ × Grown m rows (p.level_count * (h * q)) acc₁ acc₂ = rw (map-id acc₁, map-id acc₂) at d in
             record { reached = e.0; most = λ t c u v. omega (arith, e.1 t c u v, most₁ t c u v, k.costs) }
-
--- ---- numbers
-
-pub half_is : (log : ℕ) → 1 ≤ log → log < 32 → 1 * 2 ^ (log - 1) % 2 ^ 32 ≡ 2 ^ log / 2
-half_is zero h k = absurd (omega arith)
-half_is (suc log) h k = ap (λ n. 1 * 2 ^ n % 2 ^ 32) less ∙ mod-eq_of_lt (omega (arith, pow-lt {i = log} {j = 32} (omega arith))) ∙ omega arith
-  where
-    less : suc log - 1 ≡ log
-    less = omega arith
-
-pub factor_most : (a b : ℕ) → 1 ≤ a → b ≤ a * b
-factor_most a b h = omega (arith, mul-le-mul_right {m = 1} {n = a} b h)

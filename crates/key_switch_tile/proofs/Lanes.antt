@@ -28,9 +28,6 @@ pub record Opening (p : PreparedBasis) (n rows i : ℕ) (input : List ℕ) (lane
   pub is : (u : ℕ) → u < t → lane lanes u ≡ decomposer_from p (get_or input (u * (n + 1) + i) 0)
 
 module _ (p : PreparedBasis) (n rows i : ℕ) (input : List ℕ) where
-  pub opening_start : (lanes : List SignedDecomposer) → length lanes ≡ tile → Opening p n rows i input lanes 0
-  opening_start lanes e = record { upto = omega arith; count = e; is = λ u h. absurd (omega arith) }
-
   module _ (lanes : List SignedDecomposer) (t : ℕ) (g : Opening p n rows i input lanes t) where
     pub opening_end : rows ≤ t → Lanes p n rows i input lanes
     opening_end h = record { count = g.count; is = λ u k. g.is u (omega (arith, g.upto)) }

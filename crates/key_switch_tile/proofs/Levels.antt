@@ -14,7 +14,7 @@ use Rattle.gadget_digits.specs.declared.SignedDecomposer.{SignedDecomposer}
 use Rattle.gadget_digits.specs.declared.Step.{Step}
 use Rattle.gadget_digits.specs.Step.{step_of}
 use Rattle.key_switch_tile.specs.Rows.{Spare, Less}
-use Rattle.key_switch_tile.specs.Tile.{tile, lane, LevelRoom, RowLess, Leveled}
+use Rattle.key_switch_tile.specs.Tile.{tile, lane, LevelRoom, RowLess}
 use Rattle.key_switch_tile.proofs.Replaced.{replaced_in, replaced-length, row_other}
 
 -- the numbers of a part of w accumulators, and of the accumulators with that part replaced
@@ -60,9 +60,6 @@ rowing_start q grow p =
     }
 
 module _ {q grow w rows : ℕ} {entry : List ℕ} {lanes₀ : List SignedDecomposer} {acc₀ : List ℕ} {lanes : List SignedDecomposer} {acc : List ℕ} {t : ℕ} (g : Rowing q grow w rows entry lanes₀ acc₀ lanes acc t) where
-  pub rowing_end : t ≡ rows → Leveled q grow w rows entry lanes₀ acc₀ lanes acc
-  rowing_end h = record { count = g.count; same = g.same; less = λ u k. g.less u (omega arith); moved = λ u k. g.moved u (omega arith) }
-
   module _ (h : t < rows) where
     pub inside : t * w + w ≤ length acc
     inside = omega (arith, g.same, g.asks.sized, row_within w rows t h)
