@@ -41,6 +41,7 @@ fn word(words: &[u32], i: usize) -> u32 {
 }
 
 // A tag of three words: where its tally comes from, and the low and the high word of the tally; 0 and 3 have none.
+// Stays: numbers of a file, read here alone.
 fn tag(words: &[u32]) -> LweTag {
     let tally = u64::from(word(words, 1)) + 0x1_0000_0000 * u64::from(word(words, 2));
     match word(words, 0) {

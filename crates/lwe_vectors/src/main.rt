@@ -62,7 +62,8 @@ fn agrees(record: &Record) -> io::Result<bool> {
     Ok(said::agrees(said, head) && out == record.after)
 }
 
-// What comes next in a file. Stays: an enum of three, as in codec_vectors.
+// What comes next in a file.
+// Stays: an enum of three, as in codec_vectors: an end is no fault, and a record that differs is none either.
 enum Outcome {
     Equal(u32),
     Differs(u32),

@@ -21,6 +21,7 @@ const ALL: usize = 16384;
 #[derive(Clone, Copy)]
 pub(crate) struct Head {
     // The number of its kind, 0 at the end of the file.
+    // Stays: a number: it is what is counted and printed, and one that names no kind has a call too.
     pub(crate) kind: u32,
     pub(crate) modulus: Modulus,
     pub(crate) n: usize,
@@ -28,6 +29,7 @@ pub(crate) struct Head {
     pub(crate) error_limit: u32,
     pub(crate) embedding: PlaintextEmbedding,
     // The number of the refusal and what is answered; 0 where there is none.
+    // Stays: numbers, as the record has them; `said::agrees` compares both.
     pub(crate) refusal: u32,
     pub(crate) value: u32,
     pub(crate) answer: u32,

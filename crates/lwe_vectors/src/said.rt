@@ -6,7 +6,8 @@ use primus_lattice::LweTag;
 
 pub(crate) type Said = Option<Result<u32, Refusal>>;
 
-// The call said what a record says. Stays: numbers compared, which a record has.
+// The call said what a record says.
+// Stays: numbers compared, which a record has; a refused one has the answer 0 too.
 pub(crate) fn agrees(said: Said, head: Head) -> bool {
     match said {
         Some(Ok(value)) => head.refusal == 0 && head.answer == value,

@@ -11,9 +11,11 @@ use primus_decompose::{ApproxSignedBasis, DecompositionBaseLog, DecompositionLev
 use primus_lattice::{LweDimension, LweTag};
 
 // The number of levels that leaves them open.
+// Stays: the number that the file has for it; `levels` makes it an Option.
 const FULL: u32 = 0xffff_ffff;
 
-// The answer of a record whose entry is not there. Stays: the number that the file has for it.
+// The answer of a record whose entry is not there.
+// Stays: the number that the file has for it.
 const MISSING: u32 = 0xffff_ffff;
 
 fn levels(n: u32) -> Option<DecompositionLevelCount> {
@@ -77,6 +79,7 @@ pub(crate) fn single(r: &Record, out: &mut [u32]) -> Said {
     said::written(switched(r, out), LweTag::none())
 }
 
+// Stays beside `switched` and `single`: another call of the library; one function for both would be handed the call.
 fn switched_batch(r: &Record, out: &mut [u32]) -> Result<LweTag, Refusal> {
     key_switch_batch_to(parameters_of(r.head)?, &r.a, &r.b, out)
 }

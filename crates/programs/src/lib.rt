@@ -21,7 +21,8 @@ pub fn open_named<R: Files + Eprint>(rt: &R, name: &str) -> Option<R::File> {
     }
 }
 
-// One read. Stays: one that fails gives no byte: a file ends there.
+// One read.
+// Stays: one that fails gives no byte: a file ends there.
 pub fn read_some(input: &mut impl Read, bytes: &mut [u8]) -> usize
     ensures { result ≤ length bytes.new }
 {
