@@ -77,6 +77,7 @@ pub fn embedding_at(record: &[u8], at: usize) -> PlaintextEmbedding {
 }
 
 // The first `count` words are the same; there are that many in both.
+// Stays: a count beside the words: it is a head's, and a file may hold fewer.
 pub fn same(x: &[u32], y: &[u32], count: usize) -> bool {
     match (x.get(..count), y.get(..count)) {
         (Some(x), Some(y)) => x == y,
