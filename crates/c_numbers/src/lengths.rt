@@ -14,7 +14,7 @@ use primus_lattice::LweDimension;
 fn dimension_sizes(n: usize) -> Sizes
     ensures { JudgesSizes (dimension_rows n) result }
 {
-    let mut s = Sizes::NONE;
+    let mut s = Sizes::default();
     s.dimension = LweDimension::given(n).refused();
     s
 }

@@ -13,7 +13,7 @@ pub use refusal::Refusal;
 // Stays: flags, no Results: a call sets them as it goes, 13 of its parameters before 9 of its key, and the order says which counts.
 
 // Numbers and lengths.
-#[derive(Clone, Copy)]
+#[derive(Clone, Copy, Default)]
 pub struct Sizes {
     pub base_log: bool,
     pub modulus: bool,
@@ -30,7 +30,7 @@ pub struct Sizes {
 }
 
 // What is read of the lent buffers.
-#[derive(Clone, Copy)]
+#[derive(Clone, Copy, Default)]
 pub struct Values {
     pub word: bool,
     pub error: bool,
@@ -49,22 +49,6 @@ fn refuse(fails: bool, by: Refusal) -> Result<(), Refusal>
 }
 
 impl Sizes {
-    // Stays: a const, no Default: what each flag begins as stands in the next lines, with no call between.
-    pub const NONE: Sizes = Sizes {
-        base_log: false,
-        modulus: false,
-        base: false,
-        levels: false,
-        dimension: false,
-        plaintext: false,
-        small: false,
-        key: false,
-        input: false,
-        output: false,
-        lent: false,
-        error_limit: false,
-    };
-
     // Refuses by the first reason that applies.
     #[tactic(auto, unfolding(scheme::specs::Checks::first_in, crate::specs::Answer::number_of))]
     pub fn judge(self) -> Result<(), Refusal>
@@ -86,14 +70,6 @@ impl Sizes {
 }
 
 impl Values {
-    // Stays: a const, as that of the sizes.
-    pub const NONE: Values = Values {
-        word: false,
-        error: false,
-        message: false,
-        tally: false,
-    };
-
     // Refuses by the first reason that applies.
     #[tactic(auto, unfolding(scheme::specs::Checks::first_in, crate::specs::Answer::number_of))]
     pub fn judge(self) -> Result<(), Refusal>

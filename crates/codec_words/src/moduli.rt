@@ -29,7 +29,7 @@ impl Moduli {
         ensures first { Sized (size_rows t modulus differs) (code_of result) }
         ensures moduli { IfOk result (λ m. (m.t ≡ t) × (m.modulus ≡ modulus)) }
     {
-        let mut s = Sizes::NONE;
+        let mut s = Sizes::default();
         s.modulus = checks::modulus_refused(modulus);
         s.plaintext = checks::plaintext_refused(t);
         s.small = checks::small_refused(t, modulus);

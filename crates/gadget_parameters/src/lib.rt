@@ -47,7 +47,7 @@ impl DecompositionBaseLog {
     fn refusal(self) -> Result<(), Refusal>
         ensures { code_of result ≡ refusal (base_log_rows self.0) }
     {
-        let mut s = Sizes::NONE;
+        let mut s = Sizes::default();
         s.base_log = self.refused();
         s.judge()
     }
@@ -148,7 +148,7 @@ pub fn basis_sizes(
 ) -> Sizes
     ensures { JudgesSizes (basis_rows 32 (meant modulus) log_basis.0 level_count.0) result }
 {
-    let mut s = Sizes::NONE;
+    let mut s = Sizes::default();
     s.base_log = log_basis.refused();
     s.modulus = checks::modulus_refused(modulus);
     s.base = log_basis.base_refused(modulus);

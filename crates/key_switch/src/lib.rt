@@ -36,7 +36,7 @@ pub(crate) fn switch_refusal(
     s.input = input_differs;
     s.output = output_differs;
     s.judge()?;
-    let mut v = Values::NONE;
+    let mut v = Values::default();
     v.word = params.words_refused(key, input);
     v.judge()
 }

@@ -72,7 +72,7 @@ pub fn generate_refusal(
     s.lent = lent_differs(params, masks.len(), errors.len());
     s.error_limit = checks::error_limit_refused(error_limit, params.basis.modulus());
     s.judge()?;
-    let mut v = Values::NONE;
+    let mut v = Values::default();
     v.word = words_refused(params, key, output_key, masks);
     v.error = checks::errors_refused(error_limit, errors);
     v.judge()

@@ -28,7 +28,7 @@ pub fn encrypt_refusal(
     s.output = checks::ciphertexts_differ(room, count, n);
     s.lent = checks::masks_or_errors_differ(masks.len(), errors.len(), count, n);
     s.judge()?;
-    let mut v = Values::NONE;
+    let mut v = Values::default();
     v.word = checks::both_refused(params.modulus, secret, masks);
     v.error = checks::errors_refused(params.error_limit, errors);
     v.message = checks::messages_refused(params.plaintext_modulus, messages);
@@ -53,7 +53,7 @@ pub fn decrypt_refusal(
     s.input = checks::batch_differs(input.len(), n);
     s.output = room != checks::batch_count(input.len(), n);
     s.judge()?;
-    let mut v = Values::NONE;
+    let mut v = Values::default();
     v.word = checks::both_refused(params.modulus, secret, input);
     v.judge()
 }

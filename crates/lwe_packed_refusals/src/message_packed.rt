@@ -28,7 +28,7 @@ pub fn packed_message_refusal(
     s.output = packed::room_differs(dimension, room, count);
     s.lent = checks::lengths_differ(mask.len(), dimension.get(), errors.len(), count);
     s.judge()?;
-    let mut v = Values::NONE;
+    let mut v = Values::default();
     v.word = checks::both_refused(params.modulus, secret, mask);
     v.error = checks::errors_refused(params.error_limit, errors);
     v.message = checks::messages_refused(params.plaintext_modulus, messages);

@@ -33,7 +33,7 @@ fn opening_refusal(
     s.input = packed_refused(input.len(), dimension.get());
     s.output = output_differs(dimension, room, input.len());
     s.judge()?;
-    let mut v = Values::NONE;
+    let mut v = Values::default();
     v.word = checks::both_refused(params.modulus, secret, input);
     v.judge()
 }

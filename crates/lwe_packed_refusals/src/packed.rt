@@ -55,7 +55,7 @@ pub fn packed_refusal(
     s.output = room_differs(dimension, room, count);
     s.lent = checks::lengths_differ(mask.len(), dimension.get(), errors.len(), count);
     s.judge()?;
-    let mut v = Values::NONE;
+    let mut v = Values::default();
     v.word = words_refused(params.modulus, secret, mask, plaintexts);
     v.error = checks::errors_refused(params.error_limit, errors);
     v.judge()

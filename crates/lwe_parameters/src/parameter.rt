@@ -84,7 +84,7 @@ impl LwePhaseParameters {
     pub fn sizes(self) -> Sizes
         ensures { JudgesSizes (phase_parameters_rows self) result }
     {
-        let mut s = Sizes::NONE;
+        let mut s = Sizes::default();
         s.modulus = checks::modulus_refused(self.modulus);
         s.dimension = self.dimension.refused();
         s

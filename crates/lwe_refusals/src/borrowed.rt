@@ -37,7 +37,7 @@ pub fn encrypt_refusal(
     s.output = params.dimension.ciphertext_differs(room);
     s.lent = checks::lengths_differ(mask.len(), params.dimension.get(), errors.len(), 1);
     s.judge()?;
-    let mut v = Values::NONE;
+    let mut v = Values::default();
     v.word = word_refused(key, params.modulus, mask, plaintext);
     v.error = checks::errors_refused(params.error_limit, errors);
     v.judge()
@@ -57,7 +57,7 @@ pub fn decrypt_refusal(
     s.key = key.differs(params.dimension);
     s.input = params.dimension.ciphertext_differs(ciphertext.len());
     s.judge()?;
-    let mut v = Values::NONE;
+    let mut v = Values::default();
     v.word = key.refused_with(params.modulus, ciphertext);
     v.judge()
 }

@@ -25,7 +25,7 @@ pub fn message_refusal(
     s.output = params.dimension.ciphertext_differs(room);
     s.lent = checks::lengths_differ(mask.len(), params.dimension.get(), errors.len(), 1);
     s.judge()?;
-    let mut v = Values::NONE;
+    let mut v = Values::default();
     v.word = key.refused_with(params.modulus, mask);
     v.error = checks::errors_refused(params.error_limit, errors);
     v.message = checks::message_refused(params.plaintext_modulus, message);

@@ -47,13 +47,13 @@ fn extract_refusal(
 ) -> Result<(), Refusal>
     ensures { code_of result ≡ refusal (extract_rows modulus dimension.0 input.now index room) }
 {
-    let mut s = Sizes::NONE;
+    let mut s = Sizes::default();
     s.modulus = checks::modulus_refused(modulus);
     s.dimension = dimension.refused();
     s.input = sample_refused(dimension, input.len(), index);
     s.output = dimension.ciphertext_differs(room);
     s.judge()?;
-    let mut v = Values::NONE;
+    let mut v = Values::default();
     v.word = checks::words_refused(modulus, input);
     v.judge()
 }

@@ -136,12 +136,12 @@ fn marked(q: u64, t: u32, tally: Option<u64>) -> bool
 fn mark_refusal(tag: LweTag, modulus: Modulus, t: u32) -> Result<(), Refusal>
     ensures { code_of result ≡ refusal (mark_rows tag modulus t) }
 {
-    let mut s = Sizes::NONE;
+    let mut s = Sizes::default();
     s.modulus = checks::modulus_refused(modulus);
     s.plaintext = checks::plaintext_refused(t);
     s.small = checks::small_refused(t, modulus);
     s.judge()?;
-    let mut v = Values::NONE;
+    let mut v = Values::default();
     v.tally = tag.refused();
     v.judge()
 }

@@ -88,7 +88,7 @@ fn begin_judged(
     ensures { code_of result ≡ refusal (begin_rows params h bytes.now len places) }
 {
     sizes(params, h, len, places).judge()?;
-    let mut v = Values::NONE;
+    let mut v = Values::default();
     v.word = file_words_refused(params.modulus, bytes, h.words as usize);
     v.tally = pooling_rows::saved_refused(places, bytes);
     v.judge()
@@ -104,7 +104,7 @@ fn judged(
     ensures { code_of result ≡ refusal (total_rows params h bytes.now total.now tallies.now) }
 {
     sizes(params, h, total.len(), tallies.len()).judge()?;
-    let mut v = Values::NONE;
+    let mut v = Values::default();
     v.word = words_refused(params.modulus, total, bytes, h);
     v.tally = pooling_rows::tallies_refused(tallies, bytes);
     v.judge()

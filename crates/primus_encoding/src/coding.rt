@@ -92,7 +92,7 @@ impl RoundedCodec {
         let modulus = self.ciphertext_modulus;
         let differs = checks::length_differs(held.len(), input.len());
         let moduli = Moduli::judge(t, modulus, differs)?;
-        let mut v = Values::NONE;
+        let mut v = Values::default();
         v.word = words_refused(coding, modulus, input, held);
         v.message = messages_refused(coding, t, input);
         v.judge()?;

@@ -54,12 +54,12 @@ fn add_refusal(
 ) -> Result<(), Refusal>
     ensures { code_of result ≡ refusal (add_rows modulus dimension.0 x.now x_tag y.now y_tag) }
 {
-    let mut s = Sizes::NONE;
+    let mut s = Sizes::default();
     s.modulus = checks::modulus_refused(modulus);
     s.dimension = dimension.refused();
     s.input = dimension.ciphertexts_differ(x.len(), y.len());
     s.judge()?;
-    let mut v = Values::NONE;
+    let mut v = Values::default();
     v.word = checks::both_refused(modulus, x, y);
     v.tally = lwe_tag::tags_refused(x_tag, y_tag);
     v.judge()

@@ -37,7 +37,7 @@ fn generate_refusal(
     s.output = checks::ciphertexts_differ(room, n, n);
     s.lent = checks::masks_or_errors_differ(masks.len(), errors.len(), n, n);
     s.judge()?;
-    let mut v = Values::NONE;
+    let mut v = Values::default();
     v.word = secret.refused_with(params.modulus, masks);
     v.error = checks::errors_refused(params.error_limit, errors);
     v.judge()
@@ -84,7 +84,7 @@ fn public_refusal(
     s.output = dimension.ciphertext_differs(room);
     s.lent = lent_differs(errors.len(), coefficients.len(), dimension);
     s.judge()?;
-    let mut v = Values::NONE;
+    let mut v = Values::default();
     v.word = word_refused(params.modulus, key, plaintext);
     v.error = lent_refused(params.error_limit, errors, coefficients);
     v.judge()
@@ -109,7 +109,7 @@ fn public_message_refusal(
     s.output = dimension.ciphertext_differs(room);
     s.lent = lent_differs(errors.len(), coefficients.len(), dimension);
     s.judge()?;
-    let mut v = Values::NONE;
+    let mut v = Values::default();
     v.word = checks::words_refused(params.modulus, key);
     v.error = lent_refused(params.error_limit, errors, coefficients);
     v.message = checks::message_refused(params.plaintext_modulus, message);

@@ -189,7 +189,7 @@ impl ApproxSignedBasis {
         let s = self.sizes();
         s.judge()?;
         let modulus = self.modulus;
-        let mut v = Values::NONE;
+        let mut v = Values::default();
         v.word = checks::word_refused(modulus, value);
         v.judge()
     }
@@ -203,7 +203,7 @@ impl ApproxSignedBasis {
         s.output = levels.runs_differ(room, values.len());
         s.judge()?;
         let modulus = self.modulus;
-        let mut v = Values::NONE;
+        let mut v = Values::default();
         v.word = checks::words_refused(modulus, values);
         v.judge()
     }
