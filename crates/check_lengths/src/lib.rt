@@ -61,7 +61,7 @@ pub fn batch_differs(len: usize, n: usize) -> bool
 }
 
 // The number of ciphertexts of n + 1 words that fit.
-// Stays beside `batch_differs`: a call asks both before it judges, of a cut batch too.
+// Stays beside `batch_differs`: a call asks both before it judges, also of a batch that is no whole number of ciphertexts.
 pub fn batch_count(len: usize, n: usize) -> usize
     ensures { result ≡ len / (n + 1) }
 {

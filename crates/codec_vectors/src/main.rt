@@ -10,7 +10,7 @@ use std::io::Read;
 use std::rt::Files;
 
 // Records compared, those that differ, and the first of these, counted from 0.
-#[derive(Clone, Copy)]
+#[derive(Clone, Copy, Default)]
 struct Score {
     compared: u32,
     wrong: u32,
@@ -18,12 +18,6 @@ struct Score {
 }
 
 impl Score {
-    const NONE: Score = Score {
-        compared: 0,
-        wrong: 0,
-        first: None,
-    };
-
     // One record more. A count that is full stays.
     fn counted(self, right: bool) -> Score {
         let Some(compared) = self.compared.checked_add(1) else {
@@ -80,7 +74,7 @@ fn file(rt: &(impl Files + Eprint), name: &str, s: Score) -> Score {
 }
 
 fn main(rt: HostRuntime) {
-    let made = file(&rt, "codec.bin", Score::NONE);
+    let made = file(&rt, "codec.bin", Score::default());
     let s = file(&rt, "oracle.bin", made);
     let _ = println!(&rt; "compared {}\nwrong {}", s.compared, s.wrong);
     if let Some(first) = s.first {

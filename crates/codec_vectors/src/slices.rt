@@ -33,6 +33,7 @@ impl TryFrom<u32> for Call {
     }
 }
 
+// Stays: a match of one line a call: each takes operands of its own.
 fn called(
     call: Call,
     codec: RoundedCodec,

@@ -1,8 +1,10 @@
 // A value record: try_new, the value calls in both embeddings, and the C call.
+// Stays: a codec and a record's bytes, as in slices: the codec is made of the record once, and the rest is read where it is used.
 use check_order::Refusal;
 use primus_encoding::{MessageDecoder, PlaintextEmbedding, RoundedCodec};
 
 // What a record expects of a call: the value at one place, or the number of a refusal at another.
+// Stays: a refusal as its number: no Refusal is made of one, and that of the answer is compared with it.
 fn expected(r: &[u8], refusal: usize, value: usize) -> Result<u32, u32> {
     match little_endian::u8_at(r, refusal) {
         0 => Ok(little_endian::u32_at(r, value)),
@@ -35,7 +37,7 @@ fn decodings_right(codec: RoundedCodec, r: &[u8]) -> bool {
     is(codec.decode_value(p), message) && is(decoder.decode_value(p), message)
 }
 
-// The library's explicit modulus 0 has no counterpart in the C call.
+// The library's explicit modulus 0 has no counterpart in the C call. Stays: 2^32 plus a number for a refusal: C's call answers so.
 fn c_right(r: &[u8]) -> bool {
     let modulus = little_endian::u32_at(r, 1);
     if modulus == 0 && little_endian::u8_at(r, 0) != 0 {

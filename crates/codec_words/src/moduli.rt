@@ -76,7 +76,7 @@ impl Moduli {
         }
     }
 
-    // encode(m), lifted by an embedding. Stays: m below t is asked of each step: a lent word has no type of its own.
+    // encode(m), lifted by an embedding. Stays: m below t is asked of each step: a type would be made of each lent word, and taken apart.
     pub fn encode_as(self, embedding: PlaintextEmbedding, message: u32) -> u32
         requires { message < self.t }
         ensures { result ≡ encode_word embedding (size_of self.modulus) self.t message }

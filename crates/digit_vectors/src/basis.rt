@@ -28,8 +28,8 @@ fn says(b: ApproxSignedBasis, r: &[u8]) -> bool {
     k && l && d && h && t && bytes::run_is(&w, r.get(30..).unwrap_or(&[]))
 }
 
-// Stays: the file's number of a refusal, 0 for none: it is compared here alone.
 // Whether the answer is the one expected. A refused basis keeps the one that is held.
+// Stays: the file's number of a refusal, 0 for none: it is compared here alone.
 pub(crate) fn compare(r: &[u8], held: &mut Held) -> bool {
     let expected = little_endian::u8_at(r, 18);
     match try_new(r) {

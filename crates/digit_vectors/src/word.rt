@@ -4,6 +4,7 @@ use crate::bytes;
 use primus_decompose::{ApproxSignedBasis, Reading, Refusal, SignedDecomposer};
 
 // What a record expects of a word: its reading and ε, or the number of its refusal, and its digits, lowest first.
+// Stays: a refusal as its number: no Refusal is made of one, and that of the answer is compared with it.
 #[derive(Clone, Copy)]
 pub struct Expected<'a> {
     word: u32,
@@ -45,7 +46,7 @@ impl<'a> Expected<'a> {
 
     fn reading_is(&self, b: ApproxSignedBasis) -> bool {
         match (b.reading(self.word), self.reading) {
-            (Ok(r), Ok(x)) => r.reading == x.reading && r.error == x.error,
+            (Ok(r), Ok(x)) => r == x,
             (Err(refusal), _) => self.refuses_by(refusal),
             _ => false,
         }

@@ -61,7 +61,7 @@ pub fn error_bound(d: u32) -> u32
 }
 
 // T = P × 2^d + max(H, 1), with P = (B/2 − 1)(B^L − 1)/(B − 1).
-// Stays: base log, L and d alone, here and below: the struct of them, PreparedBasis, is what the last step makes.
+// Stays: base log, L and d alone, here and below: PreparedBasis, the struct of them, is of a judged basis; weights are answered of any.
 fn wrap_threshold(log: u32, levels: u32, d: u32) -> u32
     requires { Narrow log levels d }
     ensures { result ≡ wrap_at log levels d }
@@ -73,7 +73,7 @@ fn wrap_threshold(log: u32, levels: u32, d: u32) -> u32
 }
 
 // The constants of a basis that passes 1 to 3 and 5.
-// Stays: a requires, here and in what calls it: the type of a judged basis is what this makes, and no other step asks that it is judged.
+// Stays: a requires, here and in what calls it: a struct of judged numbers would be made in the line before and taken apart here.
 pub fn prepare(modulus: Modulus, log: u32, levels: usize) -> PreparedBasis
     requires { refusal (basis_rows 32 (meant modulus) log levels) ≡ 0 }
     ensures { Ready result × (result ≡ prepared_of modulus log levels) }

@@ -21,7 +21,7 @@ pub struct ValueCarry {
 }
 
 // The reading of a word and its rounding error ε.
-#[derive(Clone, Copy)]
+#[derive(Clone, Copy, PartialEq, Eq)]
 pub struct Reading {
     pub reading: i64,
     pub error: i64,

@@ -53,7 +53,8 @@ fn window(x: u32, log: u32, carry: bool) -> u64
 
 impl SignedDecomposer {
     // One level: a window below B/2 is its digit. From B/2 on it stands for B less, stored as q − B more,
-    // with a carry; at B the digit is 0. Stays: a step that hands on the next, no Iterator: a lane of a tile is kept as a value between levels.
+    // with a carry; at B the digit is 0. Stays: no Iterator: document 01 asks for a step that hands on the next;
+    // it has no last level, and hands out a carry beside the digit.
     #[tactic(auto, using(crate::proofs::Steps::step_small, crate::proofs::Steps::step_top, crate::proofs::Steps::step_large))]
     pub fn step(self) -> Step
         ensures { result ≡ step_of self }

@@ -34,7 +34,7 @@ impl DecompositionBaseLog {
     pub const MAX: u32 = 31;
 
     // Refuses by 1.
-    // Stays: try_new, as in the Rust: a TryFrom beside it would be a second way to the same.
+    // Stays: try_new: the Rust's TryFrom beside it would be a second way to the same.
     #[tactic(auto, using(check_order::proofs::Answers::served))]
     pub fn try_new(log_basis: u32) -> Result<DecompositionBaseLog, Refusal>
         ensures { result ≡ base_log_answer log_basis }
@@ -92,7 +92,7 @@ impl DecompositionBaseLog {
 }
 
 impl DecompositionLevelCount {
-    // Stays: `new` and `get`, no From: the Rust's names.
+    // Stays: `new` and `get`, as in the Rust: its From beside them would be a second way to the same.
     pub fn new(level_count: usize) -> DecompositionLevelCount
         ensures { result.0 ≡ level_count }
     {

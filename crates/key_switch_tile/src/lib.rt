@@ -22,7 +22,7 @@ pub struct Shape {
 }
 
 // The accumulators of a modulus, and how a row of them loses a multiple of an entry.
-// Stays: row, entry and digit, what one product is of: a struct of them would be taken apart in its only line.
+// Stays: row, entry and digit, what one product is of: a struct of them would be made for each and taken apart at once.
 pub trait Kernel {
     type Word;
 

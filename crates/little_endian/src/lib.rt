@@ -1,10 +1,11 @@
 // Little-endian numbers in a run of bytes, as operands and stored files have them. Past the end every byte is 0.
+// Stays: bytes and a place: it is no length of them, and a struct would be made for each number.
 #![tactic(auto)]
 
 ghost use Rattle.std.specs.Prelude.{◌≡◌, ◌<◌, ℕ, ◌+◌, drop, get_or};
 ghost use Rattle.little_endian.specs.Bytes.{word32, word64};
 
-// Byte i. Stays: no Option: past the end every byte is 0, as docs/FILES.md says of a file.
+// Byte i. Stays: no Option: past the end every byte is 0, as docs/CALLS.md says.
 fn byte(s: &[u8], i: usize) -> u8
     ensures { result ≡ get_or s.now i 0 }
 {

@@ -9,7 +9,8 @@ ghost use Rattle.lwe_batch_refusals.specs.Rows.{encrypt_batch_rows, batch_rows};
 use check_order::{Refusal, Values};
 use lwe_parameters::{LweParameters, LwePhaseParameters};
 
-// What refuses encryptions of messages. Stays beside that of one message, which takes a key of either form.
+// What refuses encryptions of messages. Stays beside that of one message, whose lengths are a row's: as a batch of one it would ask for
+// products of lengths, and for a slice of one.
 pub fn encrypt_refusal(
     params: LweParameters,
     secret: &[u32],
@@ -35,7 +36,7 @@ pub fn encrypt_refusal(
     v.judge()
 }
 
-// What refuses phases of a batch, or its decryption by a plaintext modulus.
+// What refuses phases of a batch, or its decryption by a plaintext modulus. Stays beside that of a packed ciphertext: the two lengths differ.
 pub fn decrypt_refusal(
     params: LwePhaseParameters,
     plaintext_modulus: Option<u32>,

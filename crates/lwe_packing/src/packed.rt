@@ -43,7 +43,7 @@ impl<'a> Rotation<'a> {
         self.ring.modulus.reduce_sub(body, product)
     }
 
-    // Body i: its mask product plus error i and the plaintext. Stays: errors and i, as in `encrypt_row`: one step makes a residue of an error.
+    // Body i: its mask product plus error i and the plaintext. Stays: errors and i, as in `encrypt_to` of lwe_secret_key.
     #[tactic(auto, using(crate::proofs::Laws::body_is))]
     fn body(self, errors: &[i32], i: usize, plaintext: u32) -> u32
         requires { i < length self.mask.now }

@@ -44,7 +44,8 @@ fn start(out: &mut [u32], errors: &[i32], plaintext: u32, ring: Ring)
     out[last] = ring.modulus.reduce_add(out[last], plaintext);
 }
 
-// x + r × y for a coefficient r, one of −1, 0, 1. Stays: r and x below q are asked: a lent number has no type of its own.
+// x + r × y for a coefficient r, one of −1, 0, 1. Stays: that r is one of these, and x
+// below q, is asked: a type would be made of each lent number, and taken apart here.
 #[tactic(auto, using(crate::proofs::Laws::same_word))]
 fn add_word(x: u32, y: u32, r: i32, ring: Ring) -> u32
     requires { (nat_abs r < 2) × (x < size_of ring.modulus) }
@@ -57,7 +58,7 @@ fn add_word(x: u32, y: u32, r: i32, ring: Ring) -> u32
     }
 }
 
-// out + r × row: the row is added, left out or taken away. Stays: r and the words below q, asked as of `add_word`.
+// out + r × row: the row is added, left out or taken away. Stays: what `add_word` asks is asked here too.
 fn add_multiple(out: &mut [u32], row: &[u32], r: i32, ring: Ring)
     requires { (length out.old ≡ length row.now) × (nat_abs r < 2) × Below (size_of ring.modulus) out.old }
     ensures { out.new ≡ zip_with (plus_times (size_of ring.modulus) r) out.old row.now }

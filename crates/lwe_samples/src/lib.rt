@@ -1,7 +1,7 @@
 // Packed ciphertexts: n shared mask words, then at most n bodies.
 // Body i uses the mask rotated right by i, its first i words negated.
 // Stays: each lent buffer is a parameter of its own, as in the Rust and in C; what refuses a call takes them as they come. So are q and n:
-// the struct of them, LwePhaseParameters, is made above this crate.
+// for the struct of them this crate would be built on lwe_parameters.
 #![tactic(auto)]
 
 ghost use Rattle.std.specs.Prelude.{◌≡◌, ◌||◌, ◌+◌, ◌-◌, ◌<◌, ◌≤◌, length, get_or};

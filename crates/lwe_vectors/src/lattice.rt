@@ -35,7 +35,7 @@ pub(crate) fn parameters(h: Head) -> Said {
     said::holds(parameters_are(h))
 }
 
-// 0 past the end.
+// 0 past the end. Stays: no Option: an operand may be shorter, and a tag that begins with 0 has no tally.
 fn word(words: &[u32], i: usize) -> u32 {
     words.get(i).copied().unwrap_or(0)
 }

@@ -19,7 +19,7 @@ use std::io::{BufReader, ErrorKind, Read};
 use std::rt::Files;
 
 // The call of a record, which writes to `out`.
-// Stays: a match of one line a kind: each number in the file stands for a call of its own.
+// Stays: a match of one line a kind: each kind is a call with operands of its own, and `r`, `form` and `out` are all that it is handed.
 fn call(kind: Kind, r: &Record, out: &mut [u32]) -> Said {
     match kind {
         Kind::Dimension => lattice::dimension(r.head),
@@ -71,6 +71,7 @@ enum Outcome {
 }
 
 // A record that breaks off, or has more words than there is room for, differs; only memory can end the program.
+// Stays: kind 0 for a head that is not there, no Option: it is printed so; and alloc beside input: main has one, and a file each the other.
 fn turn(alloc: Global, input: &mut impl Read) -> io::Result<Outcome> {
     let Some(head) = Head::read(input) else {
         return Ok(Outcome::Differs(0));

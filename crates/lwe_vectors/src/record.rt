@@ -29,7 +29,7 @@ pub(crate) struct Head {
     pub(crate) error_limit: u32,
     pub(crate) embedding: PlaintextEmbedding,
     // The number of the refusal and what is answered; 0 where there is none.
-    // Stays: numbers, as the record has them; `said::agrees` compares both.
+    // Stays: numbers, no Result: a refused record has an answer too, 0, which is compared, and refusal 0 says that words follow.
     pub(crate) refusal: u32,
     pub(crate) value: u32,
     pub(crate) answer: u32,
@@ -63,7 +63,7 @@ pub(crate) struct Record {
     pub(crate) after: Vec<u32>,
 }
 
-// Two bytes.
+// Two bytes. Stays: a remainder of the four that little_endian reads.
 fn length(bytes: &[u8], i: usize) -> usize {
     (little_endian::u32_at(bytes, i) % 65536) as usize
 }

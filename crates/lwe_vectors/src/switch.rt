@@ -15,7 +15,7 @@ use primus_lattice::{LweDimension, LweTag};
 const FULL: u32 = 0xffff_ffff;
 
 // The answer of a record whose entry is not there.
-// Stays: the number that the file has for it.
+// Stays: no Option: what a call answers is one number in a record, and this is it where there is no entry.
 const MISSING: u32 = 0xffff_ffff;
 
 fn levels(n: u32) -> Option<DecompositionLevelCount> {
@@ -79,7 +79,7 @@ pub(crate) fn single(r: &Record, out: &mut [u32]) -> Said {
     said::written(switched(r, out), LweTag::none())
 }
 
-// Stays beside `switched` and `single`: another call of the library; one function for both would be handed the call.
+// Stays beside `switched` and `single`: another call of the library, as in packed.
 fn switched_batch(r: &Record, out: &mut [u32]) -> Result<LweTag, Refusal> {
     key_switch_batch_to(parameters_of(r.head)?, &r.a, &r.b, out)
 }

@@ -19,7 +19,7 @@ fn encrypt(params: LweParameters, message: u32, out: &mut [u32]) -> Result<LweTa
     encrypt_message_to(params, embedding, key, &mask, &errors, message, out)
 }
 
-// What was written has a tally, E; a refused call gives none.
+// What was written has a tally, E; a refused call gives none. Stays: the number alone: what is expected of the program has no words.
 fn tell(rt: &impl Print, answer: Result<LweTag, Refusal>) -> io::Result<()> {
     match answer.map(|tag| tag.tally()) {
         Ok(Some(tally)) => println!(rt; "tally {tally}"),

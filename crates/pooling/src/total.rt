@@ -7,7 +7,7 @@ use check_order::Refusal;
 use lwe_parameters::LweDecryptionParameters;
 use pooling_refusals::{begin_refusal, total_refusal};
 
-// Stays: tallies beside the words, as numbers of tags: a box lends the two rooms, and saves them so.
+// Stays: tallies beside the words, as numbers of tags: a caller lends the two rooms, as C and files hold a tag.
 // The ciphertexts of a file as a total, and their tallies, whatever stood there. The E of its head is not read.
 // Refuses by 19, 2, 6, 7, 8, 10, 12, 14, 17.
 #[tactic(auto, using(scheme::proofs::Lists::is_tabulate))]

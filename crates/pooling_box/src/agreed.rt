@@ -3,8 +3,8 @@ use std::env::{Env, FillError};
 
 pub(crate) const PLACES: usize = 4;
 
-// Stays: 0, no Option: what is no number is refused as a wrong t is, with no path of its own.
 // A decimal number of 32 bits; else 0, with which no file is accepted: 19 refuses a file of another t, and 7 one whose head has 0 too.
+// Stays: 0, no Option: what is no number is refused as a wrong t is, with no path of its own.
 fn number_of(digits: &[u8]) -> u32 {
     match str::from_utf8(digits) {
         Ok(text) => text.parse().unwrap_or(0),

@@ -6,7 +6,8 @@ use pooling::{LweDecryptionParameters, add_saved, begin_saved};
 use primus_lattice::LweTag;
 
 // The words of the total, the number of a tag for each place, and how many rows were added.
-// Stays: tallies as numbers of tags, beside the words: `pooling` takes both so.
+// Stays: tallies as numbers of tags, beside the words: `pooling` is lent them so, as C and files hold a tag; and rows 0 for a total that has
+// not begun, no Option: it is printed.
 #[derive(Drop)]
 pub(crate) struct Pool<'a> {
     pub(crate) params: LweDecryptionParameters,

@@ -18,7 +18,7 @@ pub(crate) fn told(rt: &impl Print, name: &str, answer: Result<(), Refusal>) {
     }
 }
 
-// What became of a file: for 19, in words, what stands under its name.
+// What became of a file: for 19, in words, what stands under its name. Stays: 19 as it is: its other words, of a command, are left out.
 pub(crate) fn told_file(rt: &impl Print, name: &str, answer: Result<(), Refusal>, stored: Stored) {
     if answer == Err(Refusal::Unreadable) {
         let _ = println!(rt; "{name}: refused 19: {stored}");

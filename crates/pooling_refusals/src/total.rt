@@ -14,7 +14,7 @@ use primus_reduce::Modulus;
 use saved_head::Head;
 
 // 19: no ciphertexts of one message each, or made with another q or t.
-// Stays: numbers compared, no `==`: the modulus that a caller gives may be `Explicit(0)`, which has native's number, as a file would.
+// Stays: numbers compared: a caller may give `Explicit(0)`, whose number is native's: 2 refuses it, where `==` would give 19.
 fn is_other(h: Head, modulus: Modulus, plaintext_modulus: u32) -> bool
     ensures { result ≡ other_fails h modulus plaintext_modulus }
 {

@@ -27,7 +27,7 @@ fn words_from(out: &mut [u32], bytes: &[u8], at: usize)
 const ROW: usize = LweDimension::MAX + 1;
 
 // Adds ciphertext i of a file to that of a total, in its place: the number of the sum's tag.
-// Stays: a tag as its number, as a total lends its tallies; i, a place and no length; and q and n alone, since a sum takes no t.
+// Stays: a tag as its number, as a total lends its tallies; i, a place and no length; and q and n alone, as `add_assign` takes them.
 pub fn add_row(
     total: &mut [u32],
     number: u64,

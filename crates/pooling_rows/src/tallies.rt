@@ -1,4 +1,4 @@
-// The tallies of a total: for each place the number of a tag. Stays: numbers: a box lends them, and saves them so.
+// The tallies of a total: for each place the number of a tag. Stays: numbers: a caller lends them, as C and files hold a tag.
 ghost use Rattle.std.specs.Prelude.{◌≡◌, length};
 ghost use Rattle.pooling_rows.specs.Rows.{tallies_fail, saved_fail, saved_tallies};
 

@@ -15,7 +15,8 @@ pub struct DecompositionConfig {
 }
 
 impl DecompositionConfig {
-    // The basis of this configuration and q. Refuses by 1 to 3, 5. Stays: no TryFrom: it takes a modulus too, as in the Rust.
+    // The basis of this configuration and q. Refuses by 1 to 3, 5.
+    // Stays: a method, where the Rust has TryFrom of a pair: its name says more than a pair that is made for it.
     pub fn try_into_basis(self, modulus: Modulus) -> Result<ApproxSignedBasis, Refusal>
         ensures { result ≡ basis_answer modulus self.log_basis self.level_count }
     {

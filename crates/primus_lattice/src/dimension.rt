@@ -22,7 +22,7 @@ impl LweDimension {
     pub const MAX: usize = 2048;
 
     // The dimension n. Refuses by 6.
-    // Stays: try_new, as in the Rust: a TryFrom beside it would be a second way to the same.
+    // Stays: try_new: the Rust's TryFrom beside it would be a second way to the same.
     #[tactic(auto, unfolding(scheme::specs::Checks::refusal, scheme::specs::Checks::first_in, check_order::specs::Answer::answer, check_order::specs::Answer::refusal_for))]
     pub fn try_new(dimension: usize) -> Result<LweDimension, Refusal>
         ensures { result ≡ dimension_answer dimension }

@@ -21,8 +21,7 @@ pub fn open_named<R: Files + Eprint>(rt: &R, name: &str) -> Option<R::File> {
     }
 }
 
-// One read.
-// Stays: one that fails gives no byte: a file ends there.
+// One read. Stays: no Result: one that fails gives no byte, and every caller ends there, as where the input ends.
 pub fn read_some(input: &mut impl Read, bytes: &mut [u8]) -> usize
     ensures { result ≤ length bytes.new }
 {
@@ -48,7 +47,8 @@ pub fn read_full(input: &mut impl Read, bytes: &mut [u8]) -> usize
 // The N bytes of a record; none where the input ends before.
 pub fn record<const N: usize>(input: &mut impl Read) -> Option<[u8; N]> {
     let mut bytes = [0; N];
-    (read_full(input, &mut bytes) == N).then_some(bytes)
+    input.read_exact(&mut bytes).ok()?;
+    Some(bytes)
 }
 
 // The first bytes of a file, as many as there is room for; none where it cannot be opened.

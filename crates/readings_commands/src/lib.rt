@@ -43,6 +43,7 @@ impl Command {
     }
 
     // The answer to the operands that were there. Cut off: 19.
+    // Stays: a match of one line a command, each of which tests its own operands, as its definition does.
     pub fn answer(self, session: Session, operands: &[u8]) -> Turn
         ensures { result ≡ turn_of session self operands.now }
     {

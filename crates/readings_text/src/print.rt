@@ -2,7 +2,7 @@
 use readings_core::Turn;
 use std::io::Write;
 
-// No line where there is nothing to say.
+// No line where there is nothing to say. Stays: a refusal's number alone: document 01 has no words in a line.
 pub fn print_turn(out: &mut impl Write, t: Turn) {
     let Some(reply) = t.reply else {
         return;

@@ -3,6 +3,7 @@ ghost use Rattle.std.specs.Prelude.{◌≡◌, ◌/◌, ◌%◌, ◌^◌, ◌<�
 ghost use Rattle.scheme.specs.Modulus.{is_power, value_bits_of};
 
 // 2^t = q for the trailing zeros t of q.
+// Stays: no `is_power_of_two`: std counts the ones, and what is done with a power here is done with t: one law has both.
 pub fn is_power(q: u32) -> bool
     ensures { result ≡ is_power 32 q }
 {
@@ -32,7 +33,7 @@ pub(crate) fn low_bits(x: u64, bits: u32) -> u32
     (x & mask) as u32
 }
 
-// ⌊x / y⌋: a shift for a power of two. Stays: the test of `is_power` again, of 64 bits: a trait over two widths is no plainer.
+// ⌊x / y⌋: a shift for a power of two. Stays: the test of `is_power` again, of 64 bits, for its t; a trait over two widths is no plainer.
 pub fn quotient(x: u64, y: u64) -> u64
     requires { 0 < y }
     ensures { result ≡ x / y }

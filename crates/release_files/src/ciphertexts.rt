@@ -10,7 +10,7 @@ use saved_head::{Head, Kind};
 use std::alloc::AllocError;
 
 // What stands where no message could be opened: it differs from every message.
-// Stays: a word, compared with those saved.
+// Stays: no Option: the calls write words into the room, and a message is below t, so never 2^32 − 1.
 const NONE: u32 = u32::MAX;
 
 fn parameters(h: Head) -> Result<LweDecryptionParameters, Refusal> {

@@ -17,7 +17,7 @@ impl From<Refusal> for Fault {
     }
 }
 
-// The end of its line.
+// The end of its line. Stays: the number alone: what is expected of the program has no words.
 impl fmt::Display for Fault {
     fn fmt<W: fmt::Write>(&self, f: &mut fmt::Formatter<W>) -> fmt::Result {
         match self {
@@ -35,7 +35,7 @@ pub(crate) fn agrees(as_saved: bool) -> Result<(), Fault> {
     }
 }
 
-// The files of one modulus.
+// The files of one modulus. Stays: no method for each kind of file: keys and ciphertexts are told in modules of their own.
 #[derive(Clone, Copy)]
 pub(crate) struct Folder<'a> {
     pub(crate) rt: &'a HostRuntime,
@@ -54,7 +54,7 @@ impl Folder<'_> {
         Ok(saved_files::load(self.rt, path.as_str(), words))
     }
 
-    // "folder/name: kind 5, 100 words, tally 3 (good), checksum 1234: "
+    // "folder/name: kind 5, 100 words, tally 3 (good), checksum 1234: "; a refusal by its number alone, as at the end.
     pub(crate) fn begin<W: SavedWord>(self, name: &str, l: Loaded<W>) {
         let _ = print!(self.rt;
             "{}{name}: kind {}, {} words",

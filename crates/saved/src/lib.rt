@@ -1,4 +1,5 @@
 // The words and tags of saved keys and ciphertexts, read from lent bytes: docs/FILES.md. Past the end every byte is 0.
+// Stays: bytes and a place, as in little_endian.
 #![tactic(auto)]
 
 mod words;

@@ -11,7 +11,7 @@ use check_order::Refusal;
 use primus_reduce::Modulus;
 
 // What the words are, and what they were made with; 0 where a number does not apply.
-// Stays: numbers, no Options: a program prints a head as the file has it.
+// Stays: numbers, no Options: they go as they are to `given`, which takes any number, and to the checks.
 #[derive(Clone, Copy)]
 pub struct Head {
     pub kind: Kind,
@@ -27,7 +27,7 @@ pub struct Head {
     pub beside: u32,
 }
 
-// The head, of any bytes. Stays beside `file_refusal`: a program prints the head of a refused file too.
+// The head, of any bytes. Stays: no TryFrom: a program prints the head of a refused file too.
 #[tactic(auto, unfolding(crate::specs::Head::head_of))]
 pub fn head_of(bytes: &[u8]) -> Head
     ensures { result ≡ head_of bytes.now }
@@ -82,7 +82,7 @@ fn size_differs(len: usize, words: u32, count: u32, beside: u32) -> bool
     len != 64 + 4 * words as usize
 }
 
-// Whether bytes are no whole file of this layout.
+// Whether bytes are no whole file of this layout. Stays beside `file_refusal`: two callers want the condition alone.
 #[tactic(auto, unfolding(crate::specs::Head::head_of))]
 pub fn file_refused(bytes: &[u8]) -> bool
     ensures { result ≡ file_fails bytes.now }
