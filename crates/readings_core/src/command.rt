@@ -40,7 +40,7 @@ pub enum Reply {
 }
 
 // An answer, or no line; the session after it, and whether the program goes on.
-#[derive(Clone, Copy)]
+#[derive(Clone, Copy, Default)]
 pub struct Turn {
     pub reply: Option<Result<Reply, Refusal>>,
     pub session: Session,

@@ -18,8 +18,7 @@ fn read_some(before: Reader, input: &mut impl Read, output: &mut impl Write) -> 
     let mut bytes = [0u8; 64];
     let n = input.read(&mut bytes).unwrap_or(0);
     let s = readings_steps::feed_all(before, &bytes[..n]);
-    let turns = &s.turns;
-    readings_text::print_turns(output, &turns[..s.count]);
+    readings_text::print_turns(output, &s.turns);
     s
 }
 

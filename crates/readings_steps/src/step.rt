@@ -1,17 +1,16 @@
 // What the bytes of one read leave: the reader after them, and what it said after each.
-ghost use Rattle.std.specs.Prelude.{◌≡◌, length};
+ghost use Rattle.std.specs.Prelude.{◌≡◌};
 ghost use Rattle.readings_steps.specs.Steps.{ended, step_of};
 
+use arrayvec::ArrayVec;
 use readings_core::Turn;
 use readings_reader::Reader;
 
 // The turn after byte i stands at place i, for up to 64 bytes.
-#[derive(Clone, Copy)]
+#[derive(Drop)]
 pub struct Step {
     pub reader: Reader,
-    // Stays: an array and how much of it is filled: `arrayvec::ArrayVec` is not Copy, and a step is handed on by value.
-    pub turns: [Turn; 64],
-    pub count: usize,
+    pub turns: ArrayVec<Turn, 64>,
 }
 
 impl Step {
@@ -21,27 +20,22 @@ impl Step {
     {
         let reader = self.reader;
         let turn = reader.turn;
-        self.count == 0 || !turn.more
+        self.turns.is_empty() || !turn.more
     }
 }
 
-// Feeds the bytes of one read. Places without a byte hold the turn before.
+// Feeds the bytes of one read.
 #[tactic(auto, using(crate::proofs::Fed::step_so))]
 pub fn feed_all(before: Reader, bytes: &[u8]) -> Step
     ensures { result ≡ step_of before bytes.now }
 {
-    let said = before.turn;
-    let mut turns = [said; 64];
+    let mut turns = ArrayVec::new();
     let mut m = before;
-    for (i, byte) in bytes.iter().enumerate() {
+    for byte in bytes {
         m = m.feed(*byte);
-        if i < 64 {
-            turns[i] = m.turn;
+        if !turns.is_full() {
+            turns.push(m.turn);
         }
     }
-    Step {
-        reader: m,
-        turns,
-        count: bytes.len(),
-    }
+    Step { reader: m, turns }
 }
