@@ -10,4 +10,4 @@ returns-in_err-judge c =
 pub returns : goal.returns
 returns c =
     first_value _ _ _ _ c.in_ok-judge.ensures (rw (c.differs.ensures, c.packed_refused.ensures, c.get.ensures, c.output_differs.ensures) (opening_sizes _ _ _ _ _ _ c.sizes_with-s.ensures))
-    c.judge-2.ensures (rw c.both_refused.ensures (opening_values _ _ _ _ _))
+    c.judge-2.ensures (let none = c.default-v.ensures in rw (none.1.0, none.1.1.0, none.1.1.1, c.both_refused.ensures) (opening_values _ _ _ _ _))
