@@ -38,10 +38,10 @@ pub fn run(input: &mut impl Read, output: &mut impl Write) -> Turn
     let mut m = Reader::new();
     for _read in 0..u64::MAX {
         let s = read_some(m, input, output);
-        m = s.reader;
         if s.ended() {
-            return last(m, output);
+            return last(s.reader, output);
         }
+        m = s.reader;
     }
     last(m, output)
 }

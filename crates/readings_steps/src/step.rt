@@ -18,8 +18,7 @@ impl Step {
     pub fn ended(&self) -> bool
         ensures { result ≡ ended self.now }
     {
-        let reader = self.reader;
-        let turn = reader.turn;
+        let turn = self.reader.turn;
         self.turns.is_empty() || !turn.more
     }
 }
