@@ -28,7 +28,7 @@ pub struct WordReply {
     pub word: u32,
     pub reading: i64,
     pub error: i64,
-    // Stays: an array and how much of it counts: `arrayvec::ArrayVec` is not Copy, and a reply is handed on by value.
+    // Stays: an array and how much of it counts: a turn stands in the reader and among the turns of its read, and an `arrayvec::ArrayVec` is not Copy: its clone may fail.
     pub digits: [i64; 16],
     pub level_count: usize,
 }
