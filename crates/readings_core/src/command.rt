@@ -28,7 +28,8 @@ pub struct WordReply {
     pub word: u32,
     pub reading: i64,
     pub error: i64,
-    // Stays: an array and how much of it counts: a turn stands in the reader and among the turns of its read, and an `arrayvec::ArrayVec` is not Copy: its clone may fail.
+    // Stays: an array and how much of it counts: a turn stands in the reader and among the turns of its read, and the clone of an
+    // `arrayvec::ArrayVec`, which is not Copy, may fail.
     pub digits: [i64; 16],
     pub level_count: usize,
 }
@@ -48,6 +49,7 @@ pub struct Turn {
     pub more: bool,
 }
 
+// Stays: three makers: each name says what a reply and `more` mean together, where one would be given both at each call.
 impl Turn {
     // An answer after which the program goes on.
     pub fn next(reply: Result<Reply, Refusal>, session: Session) -> Turn
