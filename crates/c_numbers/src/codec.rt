@@ -1,5 +1,5 @@
 // The codec in one number. Stays below the exports that pass it on: codec_vectors calls `decode_number`, since no program can call a static
-// library, and `encode_number` stands beside it, as its pair.
+// library, and `encode_number`, moved into its export, would be the same lines.
 ghost use Rattle.std.specs.Prelude.{◌≡◌};
 ghost use Rattle.c_numbers.specs.Service.{decode_number, encode_number};
 

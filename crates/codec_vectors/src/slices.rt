@@ -33,7 +33,7 @@ impl TryFrom<u32> for Call {
     }
 }
 
-// Stays: a match of one line a call: each takes operands of its own.
+// Stays: a match of one line a call: each is another call of the library.
 fn called(
     call: Call,
     codec: RoundedCodec,

@@ -29,7 +29,7 @@ fn says(b: ApproxSignedBasis, r: &[u8]) -> bool {
 }
 
 // Whether the answer is the one expected. A refused basis keeps the one that is held.
-// Stays: the file's number of a refusal, 0 for none: it is compared here alone.
+// Stays: the file's number of a refusal, 0 for none: a Result of it would be matched again in the next line.
 pub(crate) fn compare(r: &[u8], held: &mut Held) -> bool {
     let expected = little_endian::u8_at(r, 18);
     match try_new(r) {

@@ -61,7 +61,7 @@ pub fn error_bound(d: u32) -> u32
 }
 
 // T = P × 2^d + max(H, 1), with P = (B/2 − 1)(B^L − 1)/(B − 1).
-// Stays: base log, L and d alone, here and below: PreparedBasis, the struct of them, is of a judged basis; weights are answered of any.
+// Stays: base log, L and d alone, here and below: T is made before the PreparedBasis that holds it, and weights are of a basis unjudged.
 fn wrap_threshold(log: u32, levels: u32, d: u32) -> u32
     requires { Narrow log levels d }
     ensures { result ≡ wrap_at log levels d }
@@ -73,7 +73,8 @@ fn wrap_threshold(log: u32, levels: u32, d: u32) -> u32
 }
 
 // The constants of a basis that passes 1 to 3 and 5.
-// Stays: a requires, here and in what calls it: a struct of judged numbers would be made in the line before and taken apart here.
+// Stays: a requires, here and in the steps that call it: a basis is judged among the sizes of its call, and a struct for that alone would be
+// made with the same proof and taken apart here.
 pub fn prepare(modulus: Modulus, log: u32, levels: usize) -> PreparedBasis
     requires { refusal (basis_rows 32 (meant modulus) log levels) ≡ 0 }
     ensures { Ready result × (result ≡ prepared_of modulus log levels) }

@@ -92,7 +92,7 @@ impl DecompositionBaseLog {
 }
 
 impl DecompositionLevelCount {
-    // Stays: `new` and `get`, as in the Rust: its From beside them would be a second way to the same.
+    // Stays: `new` and `get`: the Rust's From beside them would be a second way to the same.
     pub fn new(level_count: usize) -> DecompositionLevelCount
         ensures { result.0 ≡ level_count }
     {

@@ -43,7 +43,7 @@ pub(crate) fn switch_refusal(
 
 // `count` ciphertexts whose checks have passed.
 // Stays: `count`: from a length it is a quotient by n + 1, which a batch has in its checks, and one ciphertext is 1. The basis is prepared
-// as in key_switch_entries, on which this crate would be built for one call of `prepare`.
+// as in key_switch_entries, which this crate does not name, and would for one line.
 pub(crate) fn switch_judged(
     out: &mut [u32],
     input: &[u32],

@@ -79,8 +79,8 @@ pub fn generate_refusal(
 }
 
 // The basis with its constants, for calls that have judged it.
-// Stays beside the same step of primus_decompose, private since a user may call nothing that has a requires, and of key_switch, which would
-// be built on this crate for one call of `prepare`.
+// Stays beside the same step of primus_decompose, private since a user may call nothing that has a requires, and of key_switch, which does
+// not name this crate, and would for one line.
 fn prepared(params: LweKeySwitchingParameters) -> PreparedBasis
     requires { refusal (rows params.basis) ≡ 0 }
     ensures { Ready result × (result ≡ prepared_by params.basis) }

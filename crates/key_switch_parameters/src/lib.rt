@@ -33,7 +33,7 @@ fn entries_differ(len: usize, n: usize, levels: usize, m: usize) -> bool
 
 impl LweKeySwitchingParameters {
     // Refuses by 1 to 3, 5, 6.
-    // Stays: a try_new for each kind, as in the Rust: its fields are the parameters; TryFrom would take a tuple, without their names.
+    // Stays: a try_new for each kind, as in the Rust; TryFrom would take its parameters as a tuple, without their names.
     pub fn try_new(
         basis: ApproxSignedBasis,
         input_dimension: LweDimension,

@@ -36,7 +36,8 @@ pub fn encrypt_refusal(
     v.judge()
 }
 
-// What refuses phases of a batch, or its decryption by a plaintext modulus. Stays beside that of a packed ciphertext: the two lengths differ.
+// What refuses phases of a batch, or its decryption by a plaintext modulus. Stays beside that of a packed ciphertext: one
+// for both would be handed two lengths judged by its callers, as booleans.
 pub fn decrypt_refusal(
     params: LwePhaseParameters,
     plaintext_modulus: Option<u32>,

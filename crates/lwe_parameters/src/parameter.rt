@@ -124,7 +124,7 @@ impl LweEncryptionParameters {
     }
 
     // Refuses by 2, 6, 13.
-    // Stays: a try_new for each kind, as in the Rust: its fields are the parameters; TryFrom would take a tuple, without their names.
+    // Stays: a try_new for each kind, as in the Rust; TryFrom would take its parameters as a tuple, without their names.
     pub fn try_new(
         dimension: LweDimension,
         modulus: Modulus,
@@ -154,7 +154,7 @@ impl LweParameters {
     }
 
     // Refuses by 2, 6, 7, 8, 13.
-    // Stays: a try_new for each kind, as in the Rust: its fields are the parameters; TryFrom would take a tuple, without their names.
+    // Stays: a try_new for each kind, as in the Rust; TryFrom would take its parameters as a tuple, without their names.
     pub fn try_new(
         dimension: LweDimension,
         modulus: Modulus,

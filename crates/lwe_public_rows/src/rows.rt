@@ -45,7 +45,7 @@ fn start(out: &mut [u32], errors: &[i32], plaintext: u32, ring: Ring)
 }
 
 // x + r × y for a coefficient r, one of −1, 0, 1. Stays: that r is one of these, and x
-// below q, is asked: a type would be made of each lent number, and taken apart here.
+// below q, is asked: a type would be made of each coefficient and of each word of the output, and taken apart here.
 #[tactic(auto, using(crate::proofs::Laws::same_word))]
 fn add_word(x: u32, y: u32, r: i32, ring: Ring) -> u32
     requires { (nat_abs r < 2) × (x < size_of ring.modulus) }

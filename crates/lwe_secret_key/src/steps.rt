@@ -29,7 +29,7 @@ pub fn body(sum: u32, error: u32, plaintext: u32, ring: Ring) -> u32
 }
 
 // The mask, and the body ⟨a, s⟩ + e + p with lent error i. A function, no method: a user may call nothing that has a `requires`.
-// Stays: errors and i, here and for a row: `residue_at` takes the run and a place, and is 0 past its end.
+// Stays: errors and i, here and for a row: a residue handed in would be made by each caller, with the law of `residue_at`.
 #[tactic(auto, using(crate::proofs::Laws::encrypted_is))]
 pub fn encrypt_to(
     key: LweSecretKeyRef,

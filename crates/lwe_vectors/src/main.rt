@@ -71,7 +71,7 @@ enum Outcome {
 }
 
 // A record that breaks off, or has more words than there is room for, differs; only memory can end the program.
-// Stays: kind 0 for a head that is not there, no Option: it is printed so; and alloc beside input: main has one, and a file each the other.
+// Stays: kind 0 for a head that is not there, no Option: it is printed so; and alloc beside input: a struct of them would be made for each file.
 fn turn(alloc: Global, input: &mut impl Read) -> io::Result<Outcome> {
     let Some(head) = Head::read(input) else {
         return Ok(Outcome::Differs(0));

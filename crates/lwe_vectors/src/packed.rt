@@ -5,8 +5,8 @@ use crate::said;
 use crate::said::Said;
 use primus_lattice::LweTag;
 
-// Stays: a function for each call, here and in single and lattice, though some differ in its name alone: for calls handed in, their type of
-// four slices would stand in the match of main, to save three lines.
+// Stays: a function for each call, here and in single and lattice: one for two would be handed the call, whose type, parameters, runs of
+// words and the output, is longer than what it saves.
 pub(crate) fn encrypt_encoded(r: &Record, out: &mut [u32]) -> Said {
     let params = r.head.encryption_parameters();
     let answer = primus_lwe_packed::encrypt_encoded_packed(params, &r.a, &r.b, &r.e, &r.c, out);

@@ -63,7 +63,7 @@ pub(crate) struct Record {
     pub(crate) after: Vec<u32>,
 }
 
-// Two bytes. Stays: a remainder of the four that little_endian reads.
+// Two bytes. Stays: a remainder of the four that little_endian reads: a `u16_at` would be a step with a law, for one program.
 fn length(bytes: &[u8], i: usize) -> usize {
     (little_endian::u32_at(bytes, i) % 65536) as usize
 }

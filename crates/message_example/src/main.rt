@@ -19,7 +19,8 @@ fn encrypt(params: LweParameters, message: u32, out: &mut [u32]) -> Result<LweTa
     encrypt_message_to(params, embedding, key, &mask, &errors, message, out)
 }
 
-// What was written has a tally, E; a refused call gives none. Stays: the number alone: what is expected of the program has no words.
+// What was written has a tally, E; a refused call gives none.
+// Stays: a refusal's number, no Display: the program's stdout, which stays, has no meaning beside it.
 fn tell(rt: &impl Print, answer: Result<LweTag, Refusal>) -> io::Result<()> {
     match answer.map(|tag| tag.tally()) {
         Ok(Some(tally)) => println!(rt; "tally {tally}"),

@@ -18,7 +18,8 @@ pub(crate) fn told(rt: &impl Print, name: &str, answer: Result<(), Refusal>) {
     }
 }
 
-// What became of a file: for 19, in words, what stands under its name. Stays: 19 as it is: its other words, of a command, are left out.
+// What became of a file: for 19, in words, what stands under its name. Stays: 19 is written out: its
+// Display would say `an unknown command` too.
 pub(crate) fn told_file(rt: &impl Print, name: &str, answer: Result<(), Refusal>, stored: Stored) {
     if answer == Err(Refusal::Unreadable) {
         let _ = println!(rt; "{name}: refused 19: {stored}");

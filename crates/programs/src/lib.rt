@@ -21,7 +21,7 @@ pub fn open_named<R: Files + Eprint>(rt: &R, name: &str) -> Option<R::File> {
     }
 }
 
-// One read. Stays: no Result: one that fails gives no byte, and every caller ends there, as where the input ends.
+// One read. Stays: no Result: one that fails gives no byte, and `read_full` would turn it into 0 all the same.
 pub fn read_some(input: &mut impl Read, bytes: &mut [u8]) -> usize
     ensures { result ≤ length bytes.new }
 {

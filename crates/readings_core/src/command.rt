@@ -29,7 +29,7 @@ pub struct WordReply {
     pub reading: i64,
     pub error: i64,
     // Stays: an array and how much of it counts: a turn stands in the reader and among the turns of its read, and the clone of an
-    // `arrayvec::ArrayVec`, which is not Copy, may fail.
+    // `arrayvec::ArrayVec`, which is not Copy, answers a Result for a failure that numbers cannot have.
     pub digits: [i64; 16],
     pub level_count: usize,
 }
@@ -49,7 +49,7 @@ pub struct Turn {
     pub more: bool,
 }
 
-// Stays: three makers: each name says what a reply and `more` mean together, where one would be given both at each call.
+// Stays: three makers: `next` and `end` fix `more`, `end` and `quiet` the reply; one would be given both at each call.
 impl Turn {
     // An answer after which the program goes on.
     pub fn next(reply: Result<Reply, Refusal>, session: Session) -> Turn

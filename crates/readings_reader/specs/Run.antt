@@ -66,7 +66,9 @@ start = idle (silent None true)
 -- the command c with the operand bytes xs: answered where it takes no more
 abbrev pub settled_by : Session → Command → List ℕ → Reader
 settled_by s c xs =
-    pick (leb (operands c) (length xs)) (idle (turn_of s c xs)) (record { turn = silent s true; command = Some c; held = record { items = xs } })
+    pick (leb (operands c) (length xs))
+    (idle (turn_of s c xs))
+    (record { turn = silent s true; command = Some c; held = record { items = xs } })
 
 -- a command begins; what is none gets 19
 abbrev pub begun_by : Session → Result Command Refusal → Reader

@@ -3,7 +3,7 @@ ghost use Rattle.std.specs.Prelude.{◌≡◌, ◌/◌, ◌%◌, ◌^◌, ◌<�
 ghost use Rattle.scheme.specs.Modulus.{is_power, value_bits_of};
 
 // 2^t = q for the trailing zeros t of q.
-// Stays: no `is_power_of_two`: std counts the ones, and what is done with a power here is done with t: one law has both.
+// Stays: no `is_power_of_two`: std promises that one bit is set, and the steps here use t, for which a law between the two would be needed.
 pub fn is_power(q: u32) -> bool
     ensures { result ≡ is_power 32 q }
 {

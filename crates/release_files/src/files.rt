@@ -17,7 +17,7 @@ impl From<Refusal> for Fault {
     }
 }
 
-// The end of its line. Stays: the number alone: what is expected of the program has no words.
+// The end of its line. Stays: a refusal's number, no Display: the program's stdout, which stays, has no meaning beside it.
 impl fmt::Display for Fault {
     fn fmt<W: fmt::Write>(&self, f: &mut fmt::Formatter<W>) -> fmt::Result {
         match self {
@@ -35,7 +35,7 @@ pub(crate) fn agrees(as_saved: bool) -> Result<(), Fault> {
     }
 }
 
-// The files of one modulus. Stays: no method for each kind of file: keys and ciphertexts are told in modules of their own.
+// The files of one modulus. Stays: no method for each kind of file: it would stand in the modules of keys and of ciphertexts all the same.
 #[derive(Clone, Copy)]
 pub(crate) struct Folder<'a> {
     pub(crate) rt: &'a HostRuntime,

@@ -13,7 +13,8 @@ pub fn word_at(bytes: &[u8], i: usize) -> u32
     little_endian::u32_at(bytes, i.saturating_mul(4).saturating_add(64))
 }
 
-// Word i as a signed number of the same bits: w, or w − 2^32 from 2^31 on. Stays beside `word_at` and a trait's `at`: each of them is public.
+// Word i as a signed number of the same bits: w, or w − 2^32 from 2^31 on. Stays beside a trait's `at`: a public
+// call goes on for its users.
 #[tactic(auto, using(crate::proofs::Laws::same_bits))]
 pub fn signed_at(bytes: &[u8], i: usize) -> i32
     ensures { result ≡ signed_word (file_word bytes.now i) }

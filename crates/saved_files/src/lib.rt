@@ -38,7 +38,8 @@ impl fmt::Display for Stored {
 
 // A file's refusal and why, its head, the tag of its first ciphertext, the checksum of its bytes, its words, and the room that they
 // stand in, with what follows them in the file and then zeros.
-// Stays: no Result: of a refused file the head, the tag and the checksum are told too; and both refusal, as a call answers, and stored, why.
+// Stays: no Result: of a refused file the head, the tag and the checksum are told too; and both refusal and stored:
+// the one is what a call answers, the other why, in words.
 #[derive(Clone, Copy)]
 pub struct Loaded<'a, W> {
     pub refusal: Result<(), Refusal>,

@@ -11,7 +11,7 @@ use check_order::Refusal;
 use primus_reduce::Modulus;
 
 // What the words are, and what they were made with; 0 where a number does not apply.
-// Stays: numbers, no Options: they go as they are to `given`, which takes any number, and to the checks.
+// Stays: numbers, no Options: they go as they are to `given`, `try_new` and the checks.
 #[derive(Clone, Copy)]
 pub struct Head {
     pub kind: Kind,

@@ -28,7 +28,7 @@ pub struct ApproxSignedBasis {
 
 impl ApproxSignedBasis {
     // Refuses by 1 to 3, 5.
-    // Stays: a try_new for each kind, as in the Rust: its fields are the parameters; TryFrom would take a tuple, without their names.
+    // Stays: a try_new for each kind, as in the Rust; TryFrom would take its parameters as a tuple, without their names.
     #[tactic(auto, using(check_order::proofs::Answers::served))]
     pub fn try_new(
         modulus: Modulus,
