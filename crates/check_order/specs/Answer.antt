@@ -11,6 +11,7 @@ number_of R.BaseLog = 1
 number_of R.Modulus = 2
 number_of R.Base = 3
 number_of R.Levels = 5
+number_of R.LargeModulus = 26
 number_of R.Dimension = 6
 number_of R.PlaintextModulus = 7
 number_of R.SmallModulus = 8
@@ -33,6 +34,7 @@ refusal_for n =
     (pick (n == 2) R.Modulus
     (pick (n == 3) R.Base
     (pick (n == 5) R.Levels
+    (pick (n == 26) R.LargeModulus
     (pick (n == 6) R.Dimension
     (pick (n == 7) R.PlaintextModulus
     (pick (n == 8) R.SmallModulus
@@ -45,7 +47,7 @@ refusal_for n =
     (pick (n == 15) R.Error
     (pick (n == 16) R.Message
     (pick (n == 17) R.Tally
-    (pick (n == 18) R.NoBasis R.Unreadable))))))))))))))))
+    (pick (n == 18) R.NoBasis R.Unreadable)))))))))))))))))
 
 -- the number that an answer gives: that of its refusal, or 0
 abbrev pub code_of : {A : Type 0} → Result A Refusal → ℕ

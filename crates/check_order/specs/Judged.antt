@@ -10,6 +10,7 @@ pub record OfBasis (rows : List Check) (j : Sizes) : Type 0 where
   pub is-modulus : j.modulus ≡ applies rows 2
   pub is_base : j.base ≡ applies rows 3
   pub is-levels : j.levels ≡ applies rows 5
+  pub is-large : j.large ≡ applies rows 26
 
 -- dimensions, t and E
 pub record OfParameters (rows : List Check) (j : Sizes) : Type 0 where

@@ -19,6 +19,7 @@ pub struct Sizes {
     pub modulus: bool,
     pub base: bool,
     pub levels: bool,
+    pub large: bool,
     pub dimension: bool,
     pub plaintext: bool,
     pub small: bool,
@@ -58,6 +59,7 @@ impl Sizes {
         refuse(self.modulus, Refusal::Modulus)?;
         refuse(self.base, Refusal::Base)?;
         refuse(self.levels, Refusal::Levels)?;
+        refuse(self.large, Refusal::LargeModulus)?;
         refuse(self.dimension, Refusal::Dimension)?;
         refuse(self.plaintext, Refusal::PlaintextModulus)?;
         refuse(self.small, Refusal::SmallModulus)?;

@@ -12,6 +12,8 @@ pub enum Refusal {
     Modulus = 2,
     Base = 3,
     Levels = 5,
+    // Counts of words alone (T-13).
+    LargeModulus = 26,
     Dimension = 6,
     PlaintextModulus = 7,
     SmallModulus = 8,
@@ -38,6 +40,7 @@ impl Refusal {
             Refusal::Modulus => "the modulus is below 4",
             Refusal::Base => "the modulus is below the base",
             Refusal::Levels => "the level count is 0 or more than fit",
+            Refusal::LargeModulus => "the modulus is above 65536 and no power of two",
             Refusal::Dimension => "a dimension is 0 or above 2048",
             Refusal::PlaintextModulus => "the plaintext modulus is below 2",
             Refusal::SmallModulus => "the modulus is at most the plaintext modulus",

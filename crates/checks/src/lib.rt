@@ -2,13 +2,13 @@
 #![tactic(auto)]
 
 ghost use Rattle.std.specs.Prelude.{◌≡◌, ◌||◌};
-ghost use Rattle.scheme.specs.Checks.{modulus_fails, plaintext_fails, small_fails, error_limit_fails, word_fails};
+ghost use Rattle.scheme.specs.Checks.{modulus_fails, large_fails, plaintext_fails, small_fails, error_limit_fails, word_fails};
 ghost use Rattle.scheme.specs.Checks.{words_fail, magnitudes_fail, signed_fail, errors_fail, coefficients_fail, message_fails, messages_fail};
 ghost use Rattle.primus_reduce.specs.Ring.{meant, size_of};
 
 pub use check_lengths::{
-    batch_count, batch_differs, ciphertext_differs, ciphertexts_differ, length_differs,
-    lengths_differ, masks_or_errors_differ, runs_differ,
+    batch_count, batch_differs, ciphertext_differs, ciphertexts_differ, counts_differ,
+    length_differs, lengths_differ, masks_or_errors_differ, runs_differ,
 };
 use primus_reduce::Modulus;
 
@@ -19,6 +19,16 @@ pub fn modulus_refused(q: Modulus) -> bool
     match q {
         Modulus::Native => false,
         Modulus::Explicit(q) => q < 4,
+    }
+}
+
+// 26: an explicit modulus is above 65,536 and no power of two.
+pub fn large_refused(q: Modulus) -> bool
+    ensures { result ≡ large_fails 32 (meant q) }
+{
+    match q {
+        Modulus::Native => false,
+        Modulus::Explicit(n) => 65_536 < n && !q.is_power_of_two(),
     }
 }
 

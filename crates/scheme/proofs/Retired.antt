@@ -17,13 +17,13 @@ use Rattle.scheme.specs.Numbers.{pick, tabulate}
 use Rattle.scheme.specs.Modulus.{Modulus, size, bits, Fits}
 use Rattle.scheme.specs.Basis.{full_count}
 use Rattle.scheme.specs.Checks.{Check, order, applies, first_in, refusal, basis_rows, base_log_fails, modulus_fails, base_fails}
-use Rattle.scheme.specs.Retired.{order_with_four, full_fails, with_four, refusal_with_four}
+use Rattle.scheme.specs.Retired.{order_with_four, of_01, full_fails, with_four, refusal_with_four}
 use Rattle.scheme.proofs.Checks.{base_log_ok, modulus_ok, base_ok}
 use Rattle.scheme.proofs.Modulus.{bits_cover}
 use Rattle.scheme.proofs.Order.{has, neither}
 
--- the table numbers its checks in the order in which they are judged
-pub numbered : order_with_four ≡ tabulate 17 (λ i. i + 1)
+-- document 01 numbers its checks in the order in which they are judged
+pub numbered : of_01 order_with_four ≡ tabulate 17 (λ i. i + 1)
 unfolding tabulate
 numbered = refl
 

@@ -1,7 +1,7 @@
 -- "Checks, in order": each condition by its number, and the first number that applies.
 use Rattle.std.specs.Prelude.{◌≡◌, Bool, true, false, not, ◌||◌, ◌&&◌, List, [], ◌∷◌, ◌++◌, ℕ, ◌+◌, ◌%◌, ◌^◌, leb, ltb, eqb, ℤ, nat_abs}
 use Rattle.scheme.specs.Numbers.{pick}
-use Rattle.scheme.specs.Modulus.{Modulus, Native, Explicit, bits}
+use Rattle.scheme.specs.Modulus.{Modulus, Native, Explicit, is_power, bits}
 use Rattle.scheme.specs.Lwe.{Key, Words, Signed}
 use Rattle.scheme.specs.Basis.{full_count}
 
@@ -14,9 +14,9 @@ abbrev pub row : Bool → ℕ → Check
 row b k = record { fails = b; number = k }
 
 -- "Checks, in order": the order in which numbers are judged, stated here and nowhere else. First come numbers and lengths, judged
--- before a word of a lent buffer is read; then what is read there. 4 is retired: no check ever bears it again.
+-- before a word of a lent buffer is read; then what is read there. 4 is retired: no check ever bears it again. 26 came later (T-13).
 abbrev pub sizes : List ℕ
-sizes = 1 ∷ 2 ∷ 3 ∷ 5 ∷ 6 ∷ 7 ∷ 8 ∷ 9 ∷ 10 ∷ 11 ∷ 12 ∷ 13 ∷ []
+sizes = 1 ∷ 2 ∷ 3 ∷ 5 ∷ 26 ∷ 6 ∷ 7 ∷ 8 ∷ 9 ∷ 10 ∷ 11 ∷ 12 ∷ 13 ∷ []
 
 abbrev pub values : List ℕ
 values = 14 ∷ 15 ∷ 16 ∷ 17 ∷ []
@@ -68,6 +68,11 @@ basis_rows w m b L =
     ∷ row (base_fails b m) 3
     ∷ row (levels_fail (bits w m) b L) 5
     ∷ []
+
+-- "26, a modulus over 65,536 that is no power of two, checked after 5" (T-13)
+abbrev pub large_fails : ℕ → Modulus → Bool
+large_fails w Native = false
+large_fails w (Explicit q) = ltb 65536 q && not (is_power w q)
 
 -- "6. A dimension is 0 or above 2,048."
 abbrev pub dimension_fails : ℕ → Bool
