@@ -28,6 +28,13 @@ pub fn ciphertext_differs(len: usize, n: usize) -> bool
     len - 1 != n
 }
 
+// 11: `len` is not a count for each number from 0 to n. No sum: it could overflow.
+pub fn counts_differ(len: usize, n: usize) -> bool
+    ensures { result ≡ length_fails len (n + 1) }
+{
+    ciphertext_differs(len, n)
+}
+
 // 9 to 12: `len` is not `count` runs of `width`. No product: it could overflow.
 #[tactic(auto, using(crate::proofs::Laws::runs_cut))]
 pub fn runs_differ(len: usize, count: usize, width: usize) -> bool

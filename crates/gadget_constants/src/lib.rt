@@ -5,5 +5,7 @@
 mod prepared;
 mod word;
 
-pub use prepared::{PreparedBasis, drop_bits, error_bound, power_word, prepare, scalars_from};
+pub use prepared::{
+    PreparedBasis, drop_bits, error_bound, power, power_word, prepare, scalars_from,
+};
 pub use word::{Reading, ValueCarry, read, signed_digit, write_columns};

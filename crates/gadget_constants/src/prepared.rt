@@ -44,7 +44,7 @@ pub fn power_word(n: u64) -> u32
 }
 
 // 2^n
-pub(crate) fn power(n: u32) -> u64
+pub fn power(n: u32) -> u64
     requires { n ≤ 32 }
     ensures { result ≡ 2 ^ n }
 {

@@ -19,7 +19,7 @@ use Rattle.gadget_constants.specs.declared.prepared.PreparedBasis.{PreparedBasis
 use Rattle.gadget_constants.specs.Prepared.{Ready}
 use Rattle.gadget_constants.specs.Word.{Words}
 use Rattle.primus_decompose.specs.declared.primitive.basis.ApproxSignedBasis.{ApproxSignedBasis}
-use Rattle.primus_decompose.specs.Answers.{basis, rows, prepared_by, word_rows, digit_rows, Decomposes, slice_rows, DecomposesSlice}
+use Rattle.primus_decompose.specs.Answers.{basis, rows, prepared_by, word_rows, digit_rows, Decomposes, slice_rows, DecomposesSlice, count_rows}
 
 -- ---- what a passed refusal leaves
 
@@ -50,6 +50,19 @@ decomposable {b} {xs} {room} e =
       judged = passed_part (rows b) _ n;
       sized = length_ok room (b.level_count.0 * length xs) (no 11 tt);
       below = words_ok (size_of b.modulus) xs (no 14 tt);
+    }
+
+-- what the call that counts may go on with
+pub record Countable (b : ApproxSignedBasis) (room : ℕ) : Type 0 where
+  pub judged : refusal (rows b) ≡ 0
+  pub sized : room ≡ b.level_count.0 + 1
+
+pub countable : (b : ApproxSignedBasis) (room : ℕ) → 0 ≡ refusal (count_rows b room) → Countable b room
+countable b room e =
+    let n = sym e in
+    record {
+      judged = passed_part (rows b) _ n;
+      sized = length_ok room (b.level_count.0 + 1) (passed (count_rows b room) n 11 tt);
     }
 
 -- one word is a slice of one

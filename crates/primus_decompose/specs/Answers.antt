@@ -1,11 +1,12 @@
 -- The answers of the calls: the value that a definition gives, or the first number that applies.
-use Rattle.std.specs.Prelude.{List, [], ◌∷◌, ◌++◌, ℕ, ◌*◌, ◌%◌, ◌^◌, ltb, ℤ, length, Option, Result, IfOk}
+use Rattle.std.specs.Prelude.{List, [], ◌∷◌, ◌++◌, ℕ, ◌+◌, ◌*◌, ◌%◌, ◌^◌, ltb, ℤ, length, Option, Result, IfOk}
 use Rattle.scheme.specs.Numbers.{pick}
 use Rattle.scheme.specs.Basis as B
 use Rattle.scheme.specs.Reading as R
 use Rattle.scheme.specs.Digits.{digits_of, runs_of}
 use Rattle.scheme.specs.Checks.{Check, row, Writes, basis_rows}
-use Rattle.scheme.specs.Checks.{length_fails, word_fails, words_fail}
+use Rattle.scheme.specs.Counts.{counts_of}
+use Rattle.scheme.specs.Checks.{large_fails, length_fails, word_fails, words_fail}
 use Rattle.primus_reduce.specs.Ring.{meant, size_of}
 use Rattle.primus_reduce.specs.declared.modulus.Modulus.{Modulus}
 use Rattle.check_order.specs.declared.refusal.Refusal.{Refusal}
@@ -106,3 +107,12 @@ slice_rows b xs room =
 -- "The slice call writes L runs, lowest level first"
 pub record DecomposesSlice (b : ApproxSignedBasis) (xs before : List ℕ) (r : ℕ) (after : List ℕ) : Type 0 where
   pub writes : Writes (slice_rows b xs (length before)) (runs_of (basis b) xs) before r after
+
+-- the counts of words judge 1 to 3, 5, 26 and 11
+abbrev pub count_rows : ApproxSignedBasis → ℕ → List Check
+count_rows b room =
+    rows b ++ row (large_fails 32 (meant b.modulus)) 26 ∷ row (length_fails room (b.level_count.0 + 1)) 11 ∷ []
+
+-- "L + 1 counts: how many words below q have just 0, 1, … L digits that are not zero" (T-13)
+pub record CountsWords (b : ApproxSignedBasis) (before : List ℕ) (r : ℕ) (after : List ℕ) : Type 0 where
+  pub writes : Writes (count_rows b (length before)) (counts_of (basis b)) before r after

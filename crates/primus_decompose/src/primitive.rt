@@ -1,5 +1,6 @@
 // Decomposition of words of 32 bits.
 mod basis;
+mod counts;
 mod prepared;
 mod reading;
 mod slice;
