@@ -15,7 +15,7 @@
  * A call that writes ciphertexts returns a saigagalena_answer: 0 and the tag of what was written, or the first refusal number
  * that applies and a tag without a tally. Another call that writes returns 0 or that number. A call that answers one number
  * returns it as 64 bits, or SAIGAGALENA_REFUSED plus the first refusal number that applies. A refused call has written nothing.
- * Every length and every number is judged, and before a slice is read: a call that is refused by 1 to 13 has not touched one.
+ * Every length and every number is judged, and before a slice is read: a call that is refused by 1 to 13 or 26 has not touched one.
  * What no number can say is the caller's to see to: each pointer is aligned for its elements and good for its length, a buffer
  * that is written overlaps no other, and no other thread writes a buffer during a call.
  * The library is for x86-64 Linux, and passes structs as its C does. Nothing is allocated or kept; the stack used stays below
@@ -29,7 +29,7 @@
 #include <stdint.h>
 
 /* The release that this header is of; saigagalena_version() says which one the library is of. */
-#define SAIGAGALENA_VERSION 3
+#define SAIGAGALENA_VERSION 4
 
 /* An answer of 64 bits above this is a refusal: this plus the refusal number. */
 #define SAIGAGALENA_REFUSED UINT64_C(0x100000000)
@@ -37,7 +37,7 @@
 /* 2^64 - 1: no tally. A public-key, packed or switched ciphertext has none, and a sum with one that has none has none. */
 #define SAIGAGALENA_NO_TALLY UINT64_MAX
 
-/* Refusal numbers. Where several apply, the first in the order of document 01 is given: of these, the smallest. */
+/* Refusal numbers. Where several apply, the first in the order of document 01 is given: of these the smallest, with 26 between 5 and 6. */
 #define SAIGAGALENA_BASE_LOG 1            /* the base log is below 2 or above 31 */
 #define SAIGAGALENA_MODULUS_BELOW_4 2     /* the modulus is 1, 2 or 3 */
 #define SAIGAGALENA_MODULUS_BELOW_BASE 3  /* the modulus is not 0 and below 2^(base log) */
@@ -55,6 +55,7 @@
 #define SAIGAGALENA_ERROR_OUTSIDE 15      /* an error is outside -E .. E, or a coefficient none of -1, 0, 1 */
 #define SAIGAGALENA_MESSAGE_NOT_BELOW_T 16 /* a message is not below t */
 #define SAIGAGALENA_TALLY 17              /* a tally, given or summed, exceeds 2^32 */
+#define SAIGAGALENA_LARGE_MODULUS 26      /* counts of words: the modulus is above 65536 and no power of two */
 
 /* A refusal number in words; 0 is none. 18 and 19 are given by programs only. */
 static inline const char *saigagalena_refusal_text(uint32_t refusal)
@@ -82,6 +83,8 @@ static inline const char *saigagalena_refusal_text(uint32_t refusal)
         "an unknown command, operands cut off, or not a whole file of this kind",
     };
 
+    if (refusal == SAIGAGALENA_LARGE_MODULUS)
+        return "the modulus is above 65536 and no power of two";
     return refusal < sizeof texts / sizeof texts[0] ? texts[refusal] : "unknown refusal";
 }
 
@@ -132,6 +135,10 @@ uint32_t saigagalena_reading(uint32_t modulus, uint32_t base_log, uint32_t level
  * Refuses by 1 to 3, 5, 11, 14. */
 uint32_t saigagalena_decompose(uint32_t modulus, uint32_t base_log, uint32_t levels, const uint32_t *input, size_t input_len,
                                uint32_t *out, size_t out_len);
+
+/* How busy a switch will be: out[j] is how many words below q have just j digits that are not zero, for j from 0 to L. Takes L + 1
+ * steps where q is a power of two, else q L: some milliseconds at most. Refuses by 1 to 3, 5, 26, 11 (out_len is not L + 1). */
+uint32_t saigagalena_digit_counts(uint32_t modulus, uint32_t base_log, uint32_t levels, uint32_t *out, size_t out_len);
 
 /* ---- codec */
 

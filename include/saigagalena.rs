@@ -4,7 +4,7 @@
 #![allow(dead_code)]
 
 /// The release that these declarations are of.
-pub const VERSION: u32 = 3;
+pub const VERSION: u32 = 4;
 /// An answer of 64 bits above this is a refusal: this plus the refusal number.
 pub const REFUSED: u64 = 1 << 32;
 /// The tally of a public-key, packed or switched ciphertext: none.
@@ -42,6 +42,7 @@ unsafe extern "C" {
     pub fn saigagalena_basis(modulus: u32, base_log: u32, levels: u32, out: *mut u32, out_len: usize) -> u32;
     pub fn saigagalena_reading(modulus: u32, base_log: u32, levels: u32, word: u32, out: *mut i64, out_len: usize) -> u32;
     pub fn saigagalena_decompose(modulus: u32, base_log: u32, levels: u32, input: *const u32, input_len: usize, out: *mut u32, out_len: usize) -> u32;
+    pub fn saigagalena_digit_counts(modulus: u32, base_log: u32, levels: u32, out: *mut u32, out_len: usize) -> u32;
     pub fn saigagalena_encode(modulus: u32, t: u32, centered: u32, message: u32) -> u64;
     pub fn saigagalena_decode(modulus: u32, t: u32, word: u32) -> u64;
     pub fn saigagalena_encode_slice(modulus: u32, t: u32, centered: u32, messages: *const u32, messages_len: usize, out: *mut u32, out_len: usize) -> u32;

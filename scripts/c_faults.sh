@@ -42,4 +42,8 @@ plant "a switched ciphertext has the tally E" model.c 's|switch_rows_result, no_
 plant "a sum with none keeps the other tally" results.c 's/if (o->tally\[0\] == SAIGAGALENA_NO_TALLY || o/if (o/'
 plant "a refused call gives a tally" model.c 's|+ number, SAIGAGALENA_NO_TALLY}|+ number, 0}|'
 plant "an opening judges E" model.c 's|{"decrypt_phase", MODULUS|{"decrypt_phase", BOUND \| MODULUS|'
+plant "the last word is not counted" results.c 's|a < b->q; a++|a + 1 < b->q; a++|'
+plant "words are counted without their dropped bits" results.c 's|counts\[0\] = UINT32_C(1) << b->d|counts[0] = 1|'
+plant "a digit has B values that are not zero" results.c 's|(b->B - 1));|b->B);|'
+plant "26 at 65535" model.c 's|o->modulus > 65536 |o->modulus >= 65535 |'
 [ "$missed" = 0 ] && echo "c_faults: OK"

@@ -52,6 +52,28 @@ static void compare_bases(void)
     same("q = 17, L = 3", saigagalena_basis(17, 2, 3, out, 6), 5);
 }
 
+/* "q = 16 gives 1, 6, 9 and q = 17 gives 2, 8, 7" (T-13), with base log 2 and L left open */
+static void compare_counts(void)
+{
+    static const uint32_t expected[2][3] = {{1, 6, 9}, {2, 8, 7}};
+    uint32_t out[4] = {99, 99, 99, 99};
+
+    for (uint32_t i = 0; i < 2; i++) {
+        same("counts", saigagalena_digit_counts(16 + i, 2, 0, out, 3), 0);
+        for (size_t j = 0; j < 3; j++)
+            same("a count", out[j], expected[i][j]);
+    }
+    same("counts, native, base log 31", saigagalena_digit_counts(0, 31, 0, out, 2), 0);
+    same("no digit", out[0], 2);
+    same("one digit", out[1], INT64_C(4294967294));
+    same("counts, 65536", saigagalena_digit_counts(65536, 16, 0, out, 2), 0);
+    same("counts, 65537", saigagalena_digit_counts(65537, 16, 0, out, 2), 26);
+    same("counts, 65537, one more level than fits", saigagalena_digit_counts(65537, 16, 2, out, 3), 5);
+    same("counts, 65537, no room", saigagalena_digit_counts(65537, 16, 0, NULL, 0), 26);
+    same("counts, no room", saigagalena_digit_counts(17, 2, 0, out, 2), 11);
+    same("a number beside them", out[3], 99);
+}
+
 static void compare_switches(void)
 {
     static const uint32_t secret[1] = {1}, masks[2] = {3, 4}, inputs[2][2] = {{9, 12}, {10, 12}};
@@ -141,6 +163,8 @@ static void compare_texts(void)
     }
     same("17 is the tally's", strstr(saigagalena_refusal_text(SAIGAGALENA_TALLY), "tally") != NULL, 1);
     same("13 is the limit's", strstr(saigagalena_refusal_text(SAIGAGALENA_ERROR_LIMIT), "error limit") != NULL, 1);
+    same("26 is the large modulus's", strstr(saigagalena_refusal_text(SAIGAGALENA_LARGE_MODULUS), "65536") != NULL, 1);
+    same("no text of 25", strcmp(saigagalena_refusal_text(25), unknown), 0);
     same("no text of 20", strcmp(saigagalena_refusal_text(20), unknown), 0);
     same("no text of 2^32 - 1", strcmp(saigagalena_refusal_text(UINT32_MAX), unknown), 0);
 }
@@ -150,6 +174,7 @@ int main(void)
     same("the release", saigagalena_version(), SAIGAGALENA_VERSION);
     compare_readings();
     compare_bases();
+    compare_counts();
     compare_switches();
     compare_limits();
     compare_nulls();

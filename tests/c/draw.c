@@ -33,7 +33,7 @@ static uint64_t least(uint64_t x, uint64_t y)
 static uint32_t draw_modulus(struct draw *d)
 {
     static const uint32_t moduli[] = {0,     0,     0,          4,           5,           16,          17,         257,
-                                      65536, 65537, 2147483647, 2147483648u, 2147483649u, 4294967291u, 4294967295u};
+                                      65535, 65536, 65537, 2147483647, 2147483648u, 2147483649u, 4294967291u, 4294967295u};
 
     switch (draw_below(d, 8)) {
     case 0:

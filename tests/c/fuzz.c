@@ -15,7 +15,7 @@
 #include "compare.h"
 #include "draw.h"
 
-#define NUMBERS 18
+#define NUMBERS 27
 #define MOST_CALLS 64
 #define COUNT(list) (sizeof(list) / sizeof(list)[0])
 
@@ -99,13 +99,13 @@ static double now(void)
 static void print_table(void)
 {
     printf("%-30s %8s", "call", "accepted");
-    for (int x = 1; x < NUMBERS; x++)
-        printf(" %6d", x);
+    for (size_t x = 0; x < model_order_count; x++)
+        printf(" %6u", model_order[x]);
     printf("\n");
     for (size_t i = 0; i < call_count; i++) {
         printf("%-30s %8lu", calls[i].name, seen[i][0]);
-        for (int x = 1; x < NUMBERS; x++)
-            printf(seen[i][x] ? " %6lu" : " %6.0lu", seen[i][x]);
+        for (size_t x = 0; x < model_order_count; x++)
+            printf(seen[i][model_order[x]] ? " %6lu" : " %6.0lu", seen[i][model_order[x]]);
         printf("\n");
     }
 }

@@ -29,6 +29,11 @@ void decompose_lengths(const struct operands *o, uint64_t expected[FIELDS])
     expected[OUT] = level_count(o) * len(o, INPUT);
 }
 
+void counts_lengths(const struct operands *o, uint64_t expected[FIELDS])
+{
+    expected[OUT] = level_count(o) + 1;
+}
+
 void same_lengths(const struct operands *o, uint64_t expected[FIELDS])
 {
     expected[OUT] = len(o, INPUT);

@@ -53,6 +53,11 @@ static struct answer call_decompose(const struct operands *o)
     return number_only(saigagalena_decompose(o->modulus, o->base_log, o->levels, SLICE(INPUT), SLICE(OUT)));
 }
 
+static struct answer call_digit_counts(const struct operands *o)
+{
+    return number_only(saigagalena_digit_counts(o->modulus, o->base_log, o->levels, SLICE(OUT)));
+}
+
 static struct answer call_encode(const struct operands *o)
 {
     return number_only(saigagalena_encode(o->modulus, o->t, o->centered, o->value));
@@ -232,7 +237,7 @@ static struct answer call_key_switch_batch(const struct operands *o)
 /* In the order of the model's table. */
 static library_call *const library_calls[] = {
     call_ciphertext_words, call_packed_words, call_public_key_words, call_switching_key_words, call_basis,
-    call_reading, call_decompose, call_encode, call_decode, call_encode_slice, call_decode_slice,
+    call_reading, call_decompose, call_digit_counts, call_encode, call_decode, call_encode_slice, call_decode_slice,
     call_encrypt_encoded, call_encrypt_encoded_signed, call_encrypt_message, call_encrypt_message_signed,
     call_encrypt_message_batch, call_encrypt_encoded_packed, call_encrypt_message_packed, call_decrypt_phase,
     call_decrypt_phase_signed, call_decrypt_message, call_decrypt_message_signed, call_decrypt_phase_batch,

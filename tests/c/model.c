@@ -38,6 +38,11 @@ static int below_base(const struct operands *o)
     return o->modulus != 0 && (o->base_log > 31 || o->modulus < UINT64_C(1) << o->base_log);
 }
 
+static int is_power(uint64_t q)
+{
+    return (q & (q - 1)) == 0;
+}
+
 static int dimension_fails(size_t n)
 {
     return n == 0 || n > 2048;
@@ -157,6 +162,7 @@ uint32_t model_applying(const struct call *call, const struct operands *o)
         {base && below_base(o), 3},
         {base && full_count(o) == 0, 4},
         {base && (level_count(o) == 0 || level_count(o) > full_count(o)), 5},
+        {(takes & COUNTED) && o->modulus > 65536 && !is_power(o->modulus), 26},
         {((takes & N) && dimension_fails(o->n)) || ((takes & M) && dimension_fails(o->m)), 6},
         {t && o->t < 2, 7},
         {t && o->modulus != 0 && o->modulus <= o->t, 8},
@@ -178,13 +184,19 @@ uint32_t model_applying(const struct call *call, const struct operands *o)
     return applying;
 }
 
+const unsigned model_order[] = {1, 2, 3, 4, 5, 26, 6, 7, 8, 9, 10, 11, 12, 13, 14, 15, 16, 17};
+const size_t model_order_count = sizeof model_order / sizeof model_order[0];
+
 uint32_t model_refusal(const struct call *call, const struct operands *o)
 {
     const uint32_t applying = model_applying(call, o);
 
-    for (uint32_t number = 1; number <= 17; number++)
+    for (size_t i = 0; i < model_order_count; i++) {
+        const unsigned number = model_order[i];
+
         if (applying >> number & 1)
             return number;
+    }
     return 0;
 }
 
@@ -225,6 +237,7 @@ const struct call calls[] = {
     {"basis", MODULUS | BASE, F(OUT), NO_INPUT, basis_lengths, basis_result, no_tally, "1 2 3 4 5 11"},
     {"reading", MODULUS | BASE | WORD, F(OUT), NO_INPUT, reading_lengths, reading_result, no_tally, "1 2 3 4 5 11 14"},
     {"decompose", MODULUS | BASE, F(INPUT) | F(OUT), ANY, decompose_lengths, decompose_result, no_tally, "1 2 3 4 5 11 14"},
+    {"digit_counts", MODULUS | BASE | COUNTED, F(OUT), NO_INPUT, counts_lengths, counts_result, no_tally, "1 2 3 4 5 11 26"},
     {"encode", MODULUS | T | MESSAGE | ANSWER, 0, NO_INPUT, no_lengths, encode_result, no_tally, "2 7 8 16"},
     {"decode", MODULUS | T | WORD | ANSWER, 0, NO_INPUT, no_lengths, decode_result, no_tally, "2 7 8 14"},
     {"encode_slice", MODULUS | T | MESSAGES, F(INPUT) | F(OUT), ANY, same_lengths, encode_slice_result, no_tally,

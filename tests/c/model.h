@@ -40,6 +40,7 @@ enum takes {
     TALLY = 1024,         /* the first tally */
     TALLIES = 2048,       /* both tallies */
     SAVED = 4096,         /* the first tally, which is not judged */
+    COUNTED = 16384,      /* words are counted, one by one where q is no power of two */
     ANSWER = 8192,        /* it returns a number of 64 bits: the result, or 2^32 plus the refusal */
 };
 
@@ -75,6 +76,10 @@ void model_lengths(const struct call *call, const struct operands *o, uint64_t e
 /* Bit i is set where check i applies. */
 uint32_t model_applying(const struct call *call, const struct operands *o);
 
+/* The order in which numbers are judged. */
+extern const unsigned model_order[];
+extern const size_t model_order_count;
+
 /* The first check that applies, or 0. */
 uint32_t model_refusal(const struct call *call, const struct operands *o);
 
@@ -95,14 +100,14 @@ uint64_t level_count(const struct operands *o);
 uint64_t threshold(const struct operands *o);
 
 /* The formulas, and the lengths that the calls expect: results.c and lengths.c. */
-result_of basis_result, reading_result, decompose_result, encode_result, decode_result, encode_slice_result, decode_slice_result;
+result_of basis_result, reading_result, decompose_result, counts_result, encode_result, decode_result, encode_slice_result, decode_slice_result;
 result_of encrypt_encoded_result, encrypt_message_result, encrypt_rows_result, packed_result, packed_messages_result;
 result_of phase_result, message_result, phases_result, messages_result, packed_phases_result, packed_open_result;
 result_of public_key_result, public_encoded_result, public_message_result, sum_result, good_result, extract_result;
 result_of generate_result, switch_result, switch_rows_result, tag_result;
 result_of ciphertext_words_result, packed_words_result, public_key_words_result, switching_key_words_result;
 tally_of fresh_tally, no_tally, sum_tally, saved_tally;
-lengths_of no_lengths, basis_lengths, reading_lengths, decompose_lengths, same_lengths, encrypt_lengths, encrypt_rows_lengths;
+lengths_of no_lengths, basis_lengths, reading_lengths, decompose_lengths, counts_lengths, same_lengths, encrypt_lengths, encrypt_rows_lengths;
 lengths_of packed_lengths, open_lengths, open_rows_lengths, open_packed_lengths, public_key_lengths, public_encrypt_lengths;
 lengths_of ciphertext_lengths, generate_lengths, switch_lengths, switch_rows_lengths;
 

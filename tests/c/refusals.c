@@ -1,7 +1,8 @@
 /*
  * Every call of the library against the model of document 01: accepted calls, every refusal alone, every pair of damages
- * (the smaller number wins), and empty slices with null pointers. Each comparison is of the answer, of all buffers and of
- * what lies around them; where a number below 14 applies, the call is made again over pages that may not be read.
+ * (the first in the order wins), and empty slices with null pointers. Each comparison is of the answer, of all buffers and of
+ * what lies around them; where a number below 14, or 26, applies, the call is made again over pages that may not be
+ * read.
  * scripts/c_test.sh builds and runs it.
  */
 #include <stdio.h>
@@ -11,7 +12,7 @@
 #include "compare.h"
 #include "draw.h"
 
-#define NUMBERS 18
+#define NUMBERS 27
 #define FIRST_OF_VALUES 14 /* numbers below it are judged before a word is read */
 #define COUNT(list) (sizeof(list) / sizeof(list)[0])
 
@@ -19,7 +20,7 @@
 struct seen {
     unsigned long accepted, refused, empty, wrong;
     unsigned long first[NUMBERS], alone[NUMBERS]; /* by refusal number */
-    unsigned long pair[NUMBERS][NUMBERS];         /* both apply, and the smaller of them was first */
+    unsigned long pair[NUMBERS][NUMBERS];         /* both apply, and this one was first */
 };
 
 static struct draw generator = {20261116};
@@ -36,12 +37,12 @@ static void try(const struct call *call, const struct operands *o, struct seen *
         return;
     }
     seen->refused++;
-    if (first < FIRST_OF_VALUES)
+    if (first < FIRST_OF_VALUES || first == 26)
         seen->wrong += !refuses_unread(call, o, first);
     seen->first[first]++;
     seen->alone[first] += applying == UINT32_C(1) << first;
-    for (unsigned other = first + 1; other < NUMBERS; other++)
-        seen->pair[first][other] += applying >> other & 1;
+    for (unsigned other = 1; other < NUMBERS; other++)
+        seen->pair[first][other] += other != first && applying >> other & 1;
 }
 
 static void try_drawn(const struct call *call, const struct plan *plan, const struct damage *damages, size_t count,
@@ -123,10 +124,11 @@ static uint32_t listed(const struct call *call)
     return numbers;
 }
 
-/* Whether both were to be seen with x first. Never 4: where it applies, 1 or 3 does. Nor 7 before 8: where q <= t < 2, 2 applies. */
+/* Whether both were to be seen with x first. Never 4: where it applies, 1 or 3 does. Nor 7 before 8: where q <= t < 2, 2 applies. Nor 2 before
+ * 26: one is of small moduli, the other of large ones. */
 static int missing_pair(uint32_t numbers, const struct seen *seen, unsigned x, unsigned y)
 {
-    return x != 4 && !(x == 7 && y == 8) && numbers >> x & 1 && numbers >> y & 1 && seen->pair[x][y] == 0;
+    return x != 4 && !(x == 7 && y == 8) && !(x == 2 && y == 26) && numbers >> x & 1 && numbers >> y & 1 && seen->pair[x][y] == 0;
 }
 
 /* The numbers that were given are those that the header lists, each also alone, and each before every later one. */
@@ -135,7 +137,8 @@ static int covered(const struct call *call, const struct seen *seen)
     const uint32_t numbers = listed(call);
     int good = 1;
 
-    for (unsigned x = 1; x < NUMBERS; x++) {
+    for (size_t i = 0; i < model_order_count; i++) {
+        const unsigned x = model_order[i];
         const int due = x != 4 && numbers >> x & 1;
         /* a modulus below 4 is below every base, so 3 applies too */
         const int due_alone = due && !(x == 2 && call->takes & BASE);
@@ -144,7 +147,9 @@ static int covered(const struct call *call, const struct seen *seen)
             printf("  %u was first %lu times, alone %lu times\n", x, seen->first[x], seen->alone[x]);
             good = 0;
         }
-        for (unsigned y = x + 1; y < NUMBERS; y++) {
+        for (size_t j = i + 1; j < model_order_count; j++) {
+            const unsigned y = model_order[j];
+
             if (missing_pair(numbers, seen, x, y)) {
                 printf("  %u before %u was not seen\n", x, y);
                 good = 0;

@@ -128,6 +128,43 @@ uint64_t decompose_result(const struct operands *o, void *out)
     return 0;
 }
 
+/* The words below q by how many of their digits are not zero, one by one. */
+static void count_words(const struct basis *b, uint32_t *counts)
+{
+    int64_t digits[32];
+
+    for (uint64_t a = 0; a < b->q; a++) {
+        size_t busy = 0;
+
+        digits_of(b, (uint32_t)a, digits);
+        for (uint64_t j = 0; j < b->L; j++)
+            busy += digits[j] != 0;
+        counts[busy]++;
+    }
+}
+
+/* Where q is 2^k, every choice of L digits stands for 2^d words: level by level, a digit is 0 or one of B - 1 others. */
+static void count_choices(const struct basis *b, uint32_t *counts)
+{
+    counts[0] = UINT32_C(1) << b->d;
+    for (uint64_t level = 1; level <= b->L; level++)
+        for (uint64_t j = level; j > 0; j--)
+            counts[j] += (uint32_t)(counts[j - 1] * (b->B - 1));
+}
+
+uint64_t counts_result(const struct operands *o, void *out)
+{
+    const struct basis b = basis_of(o);
+
+    for (uint64_t j = 0; j <= b.L; j++)
+        ((uint32_t *)out)[j] = 0;
+    if ((b.q & (b.q - 1)) == 0 && b.q > 65536)
+        count_choices(&b, out);
+    else
+        count_words(&b, out);
+    return 0;
+}
+
 /* --- Codec --- */
 
 /* 2mq + t has up to 65 bits */
