@@ -38,7 +38,7 @@ step() {
 
 cc=${CC:-cc}
 step "calls and documents" python3 python3 scripts/calls.py
-for vectors in digits_vectors codec_vectors lwe_vectors switch_vectors readings_runs release_files; do
+for vectors in digits_vectors count_vectors codec_vectors lwe_vectors switch_vectors readings_runs release_files; do
     step "stored $vectors" python3 python3 "scripts/$vectors.py" --check
 done
 if [ -z "$ARCHIVE" ]; then

@@ -12,7 +12,11 @@ fn part(x: u64, scale: u64, q: u64) -> u64 {
 
 fn print_line(rt: &impl Print, j: usize, count: u32, q: u64) -> io::Result<()> {
     let share = part(u64::from(count), 10_000, q);
-    println!(rt; "{j:>15} {count:>11} {:>5}.{:02} %", share / 100, share % 100)
+    println!(rt;
+        "{j:>15} {count:>11} {:>5}.{:02} %",
+        share / 100,
+        share % 100
+    )
 }
 
 // Σ j × count
@@ -30,7 +34,11 @@ fn print_counts(rt: &impl Print, counts: &[u32], q: u64) -> io::Result<()> {
         print_line(rt, j, *count, q)?;
     }
     let mean = part(entries(counts), 1000, q);
-    println!(rt; "entries added for a mask word: {}.{:03} on average", mean / 1000, mean % 1000)
+    println!(rt;
+        "entries added for a mask word: {}.{:03} on average",
+        mean / 1000,
+        mean % 1000
+    )
 }
 
 // The table of a basis, or why there is none.
