@@ -54,7 +54,9 @@ def name_of(divisor):
     q, n, m = int(given['q']), int(given['n']), int(given['m'])
     names = {'q': q, '2q': 2 * q, 't': int(given['t']), 'n': n, 'n + 1': n + 1, 'm': m, 'm + 1': m + 1, 'L': int(given['levels']),
              'base log': int(given['base_log']), 'B - 1': int(given['base']) - 1, 'the words lent': int(given['words'])}
-    return next((name for name, value in names.items() if value == divisor), 'the unnamed %d' % divisor)
+    named = next((name for name, value in names.items() if value == divisor), None)
+    # a call that counts words divides by each of 1 to L + 1
+    return named or ('1 to L + 1' if 1 <= divisor <= int(given['counts']) else 'the unnamed %d' % divisor)
 
 
 class Division(gdb.Breakpoint):

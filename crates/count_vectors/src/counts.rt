@@ -4,6 +4,7 @@ use primus_reduce::Modulus;
 
 // The words of the buffer, and what stands in each before the call.
 const WORDS: usize = 20;
+
 const BEFORE: u32 = 0x5eed_5eed;
 
 #[derive(Clone, Copy)]
@@ -55,7 +56,10 @@ fn number(answer: Result<(), Refusal>) -> u32 {
 // The words are the numbers of the record.
 fn run_is(out: &[u32], bytes: &[u8]) -> bool {
     let words = out.iter().zip(bytes.chunks_exact(4));
-    out.len() <= bytes.len() / 4 && words.into_iter().all(|(word, bytes)| *word == little_endian::u32_at(bytes, 0))
+    out.len() <= bytes.len() / 4
+        && words
+            .into_iter()
+            .all(|(word, bytes)| *word == little_endian::u32_at(bytes, 0))
 }
 
 fn untouched(out: &[u32]) -> bool {

@@ -85,5 +85,8 @@ fn main(rt: HostRuntime) {
         wrong: 0,
     };
     file(&rt, &mut s);
-    let _ = println!(&rt; "counted {}\nrefused {}\nwrong {}", s.counted, s.refused, s.wrong);
+    let _ = println!(&rt;
+        "counted {}\nrefused {}\nwrong {}",
+        s.counted, s.refused, s.wrong
+    );
 }

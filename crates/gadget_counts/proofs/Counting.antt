@@ -15,7 +15,8 @@ use Rattle.scheme.specs.Counts.{one_if, not_zero, nonzero, count_below, count_of
 use Rattle.scheme.proofs.Stored.{stored_zero}
 use Rattle.scheme.proofs.Reading.{even, digit-range}
 use Rattle.scheme.proofs.Lists.{is_tabulate}
-use Rattle.scheme.proofs.Counts.{nonzero_next, ones_most, count_next, count_none, count_closed, count_word, choose_some, choose_most, choose_next}
+use Rattle.scheme.proofs.Naturals.{ones_most, choose_some, choose_most, choose_next}
+use Rattle.scheme.proofs.Counts.{nonzero_next, count_next, count_none, count_closed, count_word}
 use Rattle.scheme.proofs.Modulus.{full}
 use Rattle.scheme.specs.Modulus as S
 use Rattle.scheme.specs.Modulus.{bits}

@@ -6,7 +6,7 @@
 use mathlib.Core.Path.{◌≡◌, refl, sym, ◌∙◌, ap, ap₂, subst}
 use mathlib.Core.Bool.{Bool, true, false, not}
 use Prim.Native.Nat.{ℕ, zero, suc, ◌+◌, ◌*◌, ◌-◌, ◌/◌, ◌%◌, ◌^◌, ◌<◌, ◌≤◌}
-use native.Mathlib.Nat.{pow-suc, pow-zero, mod-lt, div-add-mod, mul-zero, zero-mul, mul-one, mul-pos, pow-le-pow_right, add_comm, zero-add, add-zero, add-suc, div-eq_of_eq-mul_left}
+use native.Mathlib.Nat.{pow-suc, pow-zero, mod-lt, div-add-mod, mul-zero, zero-mul, mul-one, mul-pos, pow-le-pow_right, add_comm, zero-add}
 use native.Mathlib.Omega.{arith}
 use native.Mathlib.Decide.{ℕ_discrete}
 use lib.Dec.{eqb}
@@ -21,121 +21,10 @@ use Rattle.scheme.specs.Digits.{next, digit_at, digit}
 use Rattle.scheme.specs.Reading.{threshold, lift, rounded}
 use Rattle.scheme.proofs.Reading.{even, half_pos, all_bits, bound_twice, largest_plus}
 use Rattle.scheme.proofs.Residue.{floor_div-is}
+use Rattle.scheme.proofs.Naturals.{sum_ℕ_ext, sum_ℕ_add, sum_ℕ_scale, sum_ℕ_const, sum_ℕ_swap, sum_ℕ_split, sum_ℕ_blocks, sum_ℕ_one, sum_ℕ_at, sum_ℕ_two, sum_ℕ_first, eqb_suc, ones_most, choose_some}
 use Rattle.scheme.proofs.Integers.{◌⊖◌, ⊖-ind, ⊖-eq, diff}
 use Rattle.scheme.proofs.Balanced.{ones, low-is, next-is}
 use Rattle.scheme.specs.Counts.{one_if, not_zero, nonzero, count_below, count_of, choose, closed}
-
--- ---- sums of naturals
-
-sum_ext : (n : ℕ) (f g : ℕ → ℕ) → ((i : ℕ) → i < n → f i ≡ g i) → sum_ℕ n f ≡ sum_ℕ n g
-unfolding sum_ℕ
-sum_ext zero f g h = refl
-sum_ext (suc n) f g h = ap₂ ◌+◌ (sum_ext n f g (λ i k. h i (omega arith))) (h n (omega arith))
-
-sum_plus : (n : ℕ) (f g : ℕ → ℕ) → sum_ℕ n (λ i. f i + g i) ≡ sum_ℕ n f + sum_ℕ n g
-unfolding sum_ℕ
-sum_plus zero f g = refl
-sum_plus (suc n) f g = omega (arith, sum_plus n f g)
-
-sum_times : (n c : ℕ) (f : ℕ → ℕ) → sum_ℕ n (λ i. c * f i) ≡ c * sum_ℕ n f
-unfolding sum_ℕ
-sum_times zero c f = sym (mul-zero c)
-sum_times (suc n) c f = omega (arith, sum_times n c f)
-
-sum_const : (n c : ℕ) → sum_ℕ n (λ i. c) ≡ n * c
-unfolding sum_ℕ
-sum_const zero c = sym (zero-mul c)
-sum_const (suc n) c = omega (arith, sum_const n c)
-
-sum_swap : (n m : ℕ) (f : ℕ → ℕ → ℕ) → sum_ℕ n (λ i. sum_ℕ m (f i)) ≡ sum_ℕ m (λ j. sum_ℕ n (λ i. f i j))
-unfolding sum_ℕ
-sum_swap zero m f = sym (sum_const m 0 ∙ mul-zero m)
-sum_swap (suc n) m f = ap (λ z. z + sum_ℕ m (f n)) (sum_swap n m f) ∙ sym (sum_plus m (λ j. sum_ℕ n (λ i. f i j)) (f n))
-
--- the first n terms, and k more
-sum_more : (n k : ℕ) (f : ℕ → ℕ) → sum_ℕ (n + k) f ≡ sum_ℕ n f + sum_ℕ k (λ i. f (n + i))
-unfolding sum_ℕ
-sum_more n zero f = ap (λ m. sum_ℕ m f) (add-zero n) ∙ sym (add-zero (sum_ℕ n f))
-sum_more n (suc k) f = ap (λ m. sum_ℕ m f) (add-suc n k) ∙ ap (λ z. z + f (n + k)) (sum_more n k f) ∙ omega arith
-
--- n blocks of D terms
-sum_blocks : (n D : ℕ) (f : ℕ → ℕ) → sum_ℕ (n * D) f ≡ sum_ℕ n (λ u. sum_ℕ D (λ v. f (u * D + v)))
-unfolding sum_ℕ
-sum_blocks zero D f = ap (λ m. sum_ℕ m f) (zero-mul D)
-sum_blocks (suc n) D f =
-    ap (λ m. sum_ℕ m f) next ∙ sum_more (n * D) D f ∙ ap (λ z. z + sum_ℕ D (λ v. f (n * D + v))) (sum_blocks n D f)
-  where
-    next : suc n * D ≡ n * D + D
-    next = omega arith
-
--- of n terms one is x, where h is below n, and the others y
-sum_one : (n h x y : ℕ) → h < n → sum_ℕ n (λ v. pick (eqb v h) x y) ≡ x + (n - 1) * y
-unfolding sum_ℕ
-sum_one zero h x y k = absurd (omega arith)
-sum_one (suc n) h x y k = go (ℕ_discrete n h) (sum_one n h x y)
-  where
-    none : (m : ℕ) → m ≤ h → sum_ℕ m (λ v. pick (eqb v h) x y) ≡ m * y
-    none m l = sum_ext m _ (λ v. y) (λ v b. rw (ne_eqb v h (λ e. omega arith)) refl) ∙ sum_const m y
-
-    back : (n : ℕ) → suc n - 1 ≡ n
-    back n = omega arith
-
-    law : (n s : ℕ) → s ≡ x + (n - 1) * y → 0 < n → s + y ≡ x + (suc n - 1) * y
-    law zero s e k = absurd (omega arith)
-    law (suc n) s e k = rw (back (suc n)) (let f : s ≡ x + n * y = rw (back n) at e in omega arith)
-
-    go : Dec (n ≡ h) → (h < n → sum_ℕ n (λ v. pick (eqb v h) x y) ≡ x + (n - 1) * y)
-        → sum_ℕ n (λ v. pick (eqb v h) x y) + pick (eqb n h) x y ≡ x + (suc n - 1) * y
-    go (yes e) rest = rw (eq-eqb n h e) (rw (back n) (omega (arith, none n (omega arith))))
-    go (no e) rest = rw (ne_eqb n h e) (law n (sum_ℕ n (λ v. pick (eqb v h) x y)) (rest (omega arith)) (omega arith))
-
-eqb_suc : (x j : ℕ) → eqb (suc x) (suc j) ≡ eqb x j
-eqb_suc x j = go (ℕ_discrete x j)
-  where
-    go : Dec (x ≡ j) → eqb (suc x) (suc j) ≡ eqb x j
-    go (yes e) = rw (eq-eqb x j e, eq-eqb (suc x) (suc j) (ap suc e)) refl
-    go (no e) = rw (ne_eqb x j e, ne_eqb (suc x) (suc j) (λ z. e (omega arith))) refl
-
--- every number is one of those below n, once
-sum_at : (n k : ℕ) → k < n → sum_ℕ n (λ j. one_if (eqb k j)) ≡ 1
-sum_at n k l =
-    sum_ext n _ (λ j. pick (eqb j k) 1 0) (λ j b. go j (ℕ_discrete j k)) ∙ sum_one n k 1 0 l ∙ law (n - 1)
-  where
-    go : (j : ℕ) → Dec (j ≡ k) → one_if (eqb k j) ≡ pick (eqb j k) 1 0
-    go j (yes e) = rw (eq-eqb j k e, eq-eqb k j (sym e)) refl
-    go j (no e) = rw (ne_eqb j k e, ne_eqb k j (λ z. e (sym z))) refl
-
-    law : (m : ℕ) → 1 + m * 0 ≡ 1
-    law m = omega arith
-
--- a term is within the sum, and so are two
-sum_term : (n i : ℕ) (f : ℕ → ℕ) → i < n → f i ≤ sum_ℕ n f
-unfolding sum_ℕ
-sum_term zero i f h = absurd (omega arith)
-sum_term (suc n) i f h = go (ℕ_discrete n i) (sum_term n i f)
-  where
-    go : Dec (n ≡ i) → (i < n → f i ≤ sum_ℕ n f) → f i ≤ sum_ℕ n f + f n
-    go (yes e) rest = omega (arith, ap f e)
-    go (no e) rest = omega (arith, rest (omega arith))
-
-sum_two : (n i k : ℕ) (f : ℕ → ℕ) → i < k → k < n → f i + f k ≤ sum_ℕ n f
-unfolding sum_ℕ
-sum_two zero i k f l m = absurd (omega arith)
-sum_two (suc n) i k f l m = go (ℕ_discrete n k) (sum_two n i k f l)
-  where
-    go : Dec (n ≡ k) → (k < n → f i + f k ≤ sum_ℕ n f) → f i + f k ≤ sum_ℕ n f + f n
-    go (yes e) rest = omega (arith, ap f e, sum_term n i f (omega arith))
-    go (no e) rest = omega (arith, rest (omega arith))
-
--- a sum of ones is at most as long
-pub ones_most : (n : ℕ) (f : ℕ → Bool) → sum_ℕ n (λ i. one_if (f i)) ≤ n
-unfolding sum_ℕ
-ones_most zero f = omega arith
-ones_most (suc n) f = omega (arith, ones_most n f, most (f n))
-  where
-    most : (c : Bool) → one_if c ≤ 1
-    most true = omega arith
-    most false = omega arith
 
 -- ---- the digits of u ⊖ h·(1 + B + …): digit j is u / B^j mod B less h, so it is zero where that is h
 
@@ -143,12 +32,6 @@ ones_most (suc n) f = omega (arith, ones_most n f, most (f n))
 unfoldable others : ℕ → ℕ → ℕ → ℕ → ℕ
 others B h zero u = 0
 others B h (suc L) u = one_if (not (eqb (u % B) h)) + others B h L (u / B)
-
--- a sum by levels, the lowest apart
-sum_first_ℕ : (n : ℕ) (f : ℕ → ℕ) → sum_ℕ (suc n) f ≡ f 0 + sum_ℕ n (λ i. f (suc i))
-unfolding sum_ℕ
-sum_first_ℕ zero f = omega arith
-sum_first_ℕ (suc n) f = ap (λ z. z + f (suc n)) (sum_first_ℕ n f) ∙ omega arith
 
 not_zero_at : (v h : ℕ) → not_zero (v ⊖ h) ≡ not (eqb v h)
 not_zero_at v h =
@@ -165,7 +48,7 @@ module _ (B h : ℕ) (even : B ≡ h + h) (positive : 0 < h) where
   unfolding sum_ℕ digit_at others ones
   others_are zero u r e = refl
   others_are (suc L) u r e =
-      sum_first_ℕ L (λ j. one_if (not_zero (digit_at B h r j)))
+      sum_ℕ_first L (λ j. one_if (not_zero (digit_at B h r j)))
       ∙ ap₂ ◌+◌ (ap (λ z. one_if (not_zero z)) (low-is B h even positive (u % B) s r (mod-lt u (omega arith)) split) ∙ ap one_if (not_zero_at (u % B) h))
       (others_are L (u / B) (next B h r) (next-is B h even positive (u % B) s r (mod-lt u (omega arith)) split))
     where
@@ -184,8 +67,8 @@ module _ (B h : ℕ) (even : B ≡ h + h) (positive : 0 < h) where
       ≡ one_if (eqb (others B h L u) j) + (B - 1) * one_if (eqb (suc (others B h L u)) j)
   unfolding others
   one_block L u j =
-      sum_ext B _ (λ v. pick (eqb v h) (one_if (eqb (others B h L u) j)) (one_if (eqb (suc (others B h L u)) j))) each
-      ∙ sum_one B h (one_if (eqb (others B h L u) j)) (one_if (eqb (suc (others B h L u)) j)) (omega arith)
+      sum_ℕ_ext B _ (λ v. pick (eqb v h) (one_if (eqb (others B h L u) j)) (one_if (eqb (suc (others B h L u)) j))) each
+      ∙ sum_ℕ_one B h (one_if (eqb (others B h L u) j)) (one_if (eqb (suc (others B h L u)) j)) (omega arith)
     where
       choice : (c : Bool) (n : ℕ) → one_if (eqb (one_if (not c) + n) j) ≡ pick c (one_if (eqb n j)) (one_if (eqb (suc n) j))
       choice true n = ap (λ m. one_if (eqb m j)) (zero-add n)
@@ -204,19 +87,19 @@ module _ (B h : ℕ) (even : B ≡ h + h) (positive : 0 < h) where
   tally_next : (L j : ℕ) → tally (suc L) j ≡ tally L j + (B - 1) * sum_ℕ (B ^ L) (λ u. one_if (eqb (suc (others B h L u)) j))
   tally_next L j =
       ap (λ n. sum_ℕ n (λ u. one_if (eqb (others B h (suc L) u) j))) (pow-suc B L)
-      ∙ sum_blocks (B ^ L) B (λ u. one_if (eqb (others B h (suc L) u) j))
-      ∙ sum_ext (B ^ L) _ _ (λ u l. one_block L u j)
-      ∙ sum_plus (B ^ L) (λ u. one_if (eqb (others B h L u) j)) (λ u. (B - 1) * one_if (eqb (suc (others B h L u)) j))
-      ∙ ap (λ z. tally L j + z) (sum_times (B ^ L) (B - 1) (λ u. one_if (eqb (suc (others B h L u)) j)))
+      ∙ sum_ℕ_blocks (B ^ L) B (λ u. one_if (eqb (others B h (suc L) u) j))
+      ∙ sum_ℕ_ext (B ^ L) _ _ (λ u l. one_block L u j)
+      ∙ sum_ℕ_add (B ^ L) (λ u. one_if (eqb (others B h L u) j)) (λ u. (B - 1) * one_if (eqb (suc (others B h L u)) j))
+      ∙ ap (λ z. tally L j + z) (sum_ℕ_scale (B ^ L) (B - 1) (λ u. one_if (eqb (suc (others B h L u)) j)))
 
   no_less : (L : ℕ) → sum_ℕ (B ^ L) (λ u. one_if (eqb (suc (others B h L u)) 0)) ≡ 0
   no_less L =
-      sum_ext (B ^ L) (λ u. one_if (eqb (suc (others B h L u)) 0)) (λ u. 0) (λ u l. rw (ne_eqb (suc (others B h L u)) 0 (λ e. omega arith)) refl)
-      ∙ sum_const (B ^ L) 0 ∙ mul-zero (B ^ L)
+      sum_ℕ_ext (B ^ L) (λ u. one_if (eqb (suc (others B h L u)) 0)) (λ u. 0) (λ u l. rw (ne_eqb (suc (others B h L u)) 0 (λ e. omega arith)) refl)
+      ∙ sum_ℕ_const (B ^ L) 0 ∙ mul-zero (B ^ L)
 
   one_less : (L j : ℕ) → sum_ℕ (B ^ L) (λ u. one_if (eqb (suc (others B h L u)) (suc j))) ≡ tally L j
   one_less L j =
-      sum_ext (B ^ L) (λ u. one_if (eqb (suc (others B h L u)) (suc j))) (λ u. one_if (eqb (others B h L u) j))
+      sum_ℕ_ext (B ^ L) (λ u. one_if (eqb (suc (others B h L u)) (suc j))) (λ u. one_if (eqb (others B h L u) j))
       (λ u l. ap one_if (eqb_suc (others B h L u) j))
 
   tally_is : (L j : ℕ) → tally L j ≡ choose L j * (B - 1) ^ j
@@ -242,39 +125,6 @@ module _ (B h : ℕ) (even : B ≡ h + h) (positive : 0 < h) where
 
 rounded_at : (D t w : ℕ) → 0 < D → floor_div (w ⊖ t * D) D ≡ w / D ⊖ t
 rounded_at D t w k = floor_div-is (w ⊖ t * D) (w / D ⊖ t) D (w % D) (mod-lt w k) (simp diff (⊖-eq _ _ _ _ (omega (arith, div-add-mod w D))))
-
-pub choose_some : (n j : ℕ) → j ≤ n → 1 ≤ choose n j
-unfolding choose
-choose_some n zero h = omega arith
-choose_some zero (suc j) h = absurd (omega arith)
-choose_some (suc n) (suc j) h = omega (arith, choose_some n j (omega arith))
-
--- from one to the next: C(n, j + 1) is C(n, j) × (n − j) / (j + 1)
-choose_step : (n j : ℕ) → choose n j * n ≡ choose n (suc j) * suc j + choose n j * j
-unfolding choose
-choose_step zero zero = omega arith
-choose_step zero (suc j) = omega arith
-choose_step (suc n) zero = omega (arith, choose_step n 0)
-choose_step (suc n) (suc j) = omega (arith, choose_step n j, choose_step n (suc j))
-
-pub choose_next : (n j : ℕ) → j ≤ n → choose n j * (n - j) / (j + 1) ≡ choose n (j + 1)
-choose_next n j h =
-    rw add-one
-    (div-eq_of_eq-mul_left (omega arith)
-    (omega (arith, choose_step n j, ap (λ m. choose n j * m) split, mul_add (choose n j) j (n - j))))
-  where
-    split : n ≡ j + (n - j)
-    split = omega arith
-
-    mul_add : (c x y : ℕ) → c * (x + y) ≡ c * x + c * y
-    mul_add c x y = omega arith
-
-pub choose_most : (n j : ℕ) → choose n j ≤ 2 ^ n
-unfolding choose
-choose_most zero zero = omega (arith, pow-zero 2)
-choose_most zero (suc j) = omega arith
-choose_most (suc n) zero = omega (arith, pow_pos (suc n))
-choose_most (suc n) (suc j) = omega (arith, choose_most n j, choose_most n (suc j), pow-suc 2 n)
 
 module _ (b : Basis) (ok : Accepted b) where
   abbrev D : ℕ
@@ -318,11 +168,11 @@ module _ (b : Basis) (ok : Accepted b) where
     unfolding count_below
     count_shifted j =
         ap (λ n. sum_ℕ n (λ a. one_if (eqb (nonzero b a) j))) (sym shifted ∙ add_comm shift (threshold b))
-        ∙ sum_more (threshold b) shift (λ a. one_if (eqb (nonzero b a) j))
-        ∙ ap₂ ◌+◌ (sum_ext (threshold b) _ (λ a. here j (shift + a)) (λ a l. ap (λ n. one_if (eqb n j)) (nonzero_low a l)))
-        (sum_ext shift _ (here j) (λ i l. ap (λ n. one_if (eqb n j)) (nonzero_high i)))
+        ∙ sum_ℕ_split (threshold b) shift (λ a. one_if (eqb (nonzero b a) j))
+        ∙ ap₂ ◌+◌ (sum_ℕ_ext (threshold b) _ (λ a. here j (shift + a)) (λ a l. ap (λ n. one_if (eqb n j)) (nonzero_low a l)))
+        (sum_ℕ_ext shift _ (here j) (λ i l. ap (λ n. one_if (eqb n j)) (nonzero_high i)))
         ∙ add_comm (sum_ℕ (threshold b) (λ a. here j (shift + a))) (sum_ℕ shift (here j))
-        ∙ sym (sum_more shift (threshold b) (here j))
+        ∙ sym (sum_ℕ_split shift (threshold b) (here j))
         ∙ ap (λ n. sum_ℕ n (here j)) shifted
 
     -- each number above the dropped bits stands for 2^d words
@@ -331,9 +181,9 @@ module _ (b : Basis) (ok : Accepted b) where
     count_closed j =
         count_shifted j
         ∙ ap (λ n. sum_ℕ n (here j)) (full ∙ all_bits b ok)
-        ∙ sum_blocks (base b ^ b.levels) D (here j)
-        ∙ sum_ext (base b ^ b.levels) _ (λ u. D * one_if (eqb (others (base b) (half b) b.levels u) j)) (λ u l. block u)
-        ∙ sum_times (base b ^ b.levels) D (λ u. one_if (eqb (others (base b) (half b) b.levels u) j))
+        ∙ sum_ℕ_blocks (base b ^ b.levels) D (here j)
+        ∙ sum_ℕ_ext (base b ^ b.levels) _ (λ u. D * one_if (eqb (others (base b) (half b) b.levels u) j)) (λ u l. block u)
+        ∙ sum_ℕ_scale (base b ^ b.levels) D (λ u. one_if (eqb (others (base b) (half b) b.levels u) j))
         ∙ ap (λ n. D * n) (tally_is (base b) (half b) (even b ok) (half_pos b ok) b.levels j)
       where
         above : (u v : ℕ) → v < D → (u * D + v) / D ≡ u
@@ -341,9 +191,9 @@ module _ (b : Basis) (ok : Accepted b) where
 
         block : (u : ℕ) → sum_ℕ D (λ v. here j (u * D + v)) ≡ D * one_if (eqb (others (base b) (half b) b.levels u) j)
         block u =
-            sum_ext D _ (λ v. one_if (eqb (others (base b) (half b) b.levels u) j))
+            sum_ℕ_ext D _ (λ v. one_if (eqb (others (base b) (half b) b.levels u) j))
             (λ v l. ap (λ n. one_if (eqb (others (base b) (half b) b.levels n) j)) (above u v l))
-            ∙ sum_const D (one_if (eqb (others (base b) (half b) b.levels u) j))
+            ∙ sum_ℕ_const D (one_if (eqb (others (base b) (half b) b.levels u) j))
 
 -- ---- what holds of every basis
 
@@ -355,9 +205,9 @@ nonzero_most b a = ones_most b.levels (λ j. not_zero (digit b a j))
 pub counts_add : (b : Basis) (n : ℕ) → sum_ℕ (b.levels + 1) (count_below b n) ≡ n
 unfolding count_below
 counts_add b n =
-    sum_swap (b.levels + 1) n (λ j a. one_if (eqb (nonzero b a) j))
-    ∙ sum_ext n _ (λ a. 1) (λ a l. sum_at (b.levels + 1) (nonzero b a) (omega (arith, nonzero_most b a)))
-    ∙ sum_const n 1 ∙ mul-one n
+    sum_ℕ_swap (b.levels + 1) n (λ j a. one_if (eqb (nonzero b a) j))
+    ∙ sum_ℕ_ext n _ (λ a. 1) (λ a l. sum_ℕ_at (b.levels + 1) (nonzero b a) (omega (arith, nonzero_most b a)))
+    ∙ sum_ℕ_const n 1 ∙ mul-one n
 
 pub count_most : (b : Basis) (n j : ℕ) → count_below b n j ≤ n
 unfolding count_below
@@ -387,7 +237,7 @@ pub count_word : (b : Basis) → Accepted b → (j : ℕ) → j ≤ b.levels →
 count_word b ok j l = go (ℕ_discrete b.modulus (2 ^ b.bits)) (ℕ_discrete j 0)
   where
     two : (i k : ℕ) → i < k → k < b.levels + 1 → count_of b i + count_of b k ≤ b.modulus
-    two i k h m = rw counts_add at (sum_two (b.levels + 1) i k (count_of b) h m)
+    two i k h m = rw counts_add at (sum_ℕ_two (b.levels + 1) i k (count_of b) h m)
 
     go : Dec (b.modulus ≡ 2 ^ b.bits) → Dec (j ≡ 0) → count_of b j < 2 ^ b.bits
     go (no n) d = omega (arith, ok.covered, count_most b b.modulus j)
