@@ -1,5 +1,5 @@
-// A record: a basis as it is given, the room that is lent, and the counts or the number of the refusal.
-use primus_decompose::{ApproxSignedBasis, Refusal};
+// A record: a basis as it is given, the room that is lent, and what is expected of the call.
+use primus_decompose::ApproxSignedBasis;
 use primus_reduce::Modulus;
 
 // The words of the buffer, and what stands in each before the call.
@@ -7,12 +7,12 @@ const WORDS: usize = 20;
 
 const BEFORE: u32 = 0x5eed_5eed;
 
+// What a record expects: the counts, as its bytes have them, or the number of the refusal.
 #[derive(Clone, Copy)]
 pub struct Expected<'a> {
     basis: ApproxSignedBasis,
     room: usize,
-    refusal: u32,
-    counts: &'a [u8],
+    counts: Result<&'a [u8], u32>,
 }
 
 impl<'a> Expected<'a> {
@@ -23,8 +23,10 @@ impl<'a> Expected<'a> {
         Expected {
             basis: ApproxSignedBasis::given(modulus, base_log, levels),
             room: little_endian::u8_at(r, 12) as usize,
-            refusal: little_endian::u8_at(r, 13),
-            counts: r.get(14..).unwrap_or(&[]),
+            counts: match little_endian::u8_at(r, 13) {
+                0 => Ok(r.get(14..).unwrap_or(&[])),
+                number => Err(number),
+            },
         }
     }
 
@@ -36,29 +38,21 @@ impl<'a> Expected<'a> {
         Expected {
             basis: ApproxSignedBasis::given(modulus, base_log, levels),
             room: (levels as usize).wrapping_add(1),
-            refusal: 0,
-            counts: r.get(6..).unwrap_or(&[]),
+            counts: Ok(r.get(6..).unwrap_or(&[])),
         }
     }
 
     pub(crate) fn is_refused(&self) -> bool {
-        self.refusal != 0
-    }
-}
-
-fn number(answer: Result<(), Refusal>) -> u32 {
-    match answer {
-        Ok(()) => 0,
-        Err(refusal) => u32::from(refusal),
+        self.counts.is_err()
     }
 }
 
 // The words are the numbers of the record.
 fn run_is(out: &[u32], bytes: &[u8]) -> bool {
-    let words = out.iter().zip(bytes.chunks_exact(4));
     out.len() <= bytes.len() / 4
-        && words
-            .into_iter()
+        && out
+            .iter()
+            .zip(bytes.chunks_exact(4))
             .all(|(word, bytes)| *word == little_endian::u32_at(bytes, 0))
 }
 
@@ -70,11 +64,10 @@ fn untouched(out: &[u32]) -> bool {
 pub(crate) fn agree(e: &Expected) -> bool {
     let mut out = [BEFORE; WORDS];
     let room = e.room.min(WORDS);
-    let given = number(e.basis.digit_counts(&mut out[..room]));
-    let right = if e.refusal == 0 {
-        run_is(&out[..room], e.counts)
-    } else {
-        untouched(&out[..room])
+    let right = match (e.basis.digit_counts(&mut out[..room]), e.counts) {
+        (Ok(()), Ok(counts)) => run_is(&out[..room], counts),
+        (Err(refusal), Err(number)) => number == u32::from(refusal) && untouched(&out[..room]),
+        _ => false,
     };
-    given == e.refusal && right && untouched(&out[room..])
+    right && untouched(&out[room..])
 }
