@@ -2,21 +2,13 @@
 // primus_decompose judges first.
 #![tactic(auto)]
 
-ghost use Rattle.std.specs.Prelude.{◌≡◌, ◌+◌, ◌^◌, ◌<◌, ◌≤◌, length, not, ◌==◌};
-ghost use Rattle.scheme.specs.Basis.{Basis};
-ghost use Rattle.scheme.specs.Counts.{nonzero, counts_of, one_if};
+ghost use Rattle.std.specs.Prelude.{◌≡◌, ◌+◌, ◌^◌, ◌<◌, length};
+ghost use Rattle.scheme.specs.Counts.{nonzero, counts_of};
 ghost use Rattle.primus_reduce.specs.Ring.{size_of};
 ghost use Rattle.gadget_constants.specs.Prepared.{Ready, basis_in};
 
 use gadget_constants::PreparedBasis;
 use primus_reduce::Modulus;
-
-// 1 for a digit that is not zero.
-fn busy(digit: u32) -> u32
-    ensures { result ≡ one_if (not (digit == 0)) }
-{
-    if digit == 0 { 0 } else { 1 }
-}
 
 // How many of the L digits of a word are not zero: L steps, of shifts and masks.
 fn nonzero(p: PreparedBasis, value: u32) -> u32
@@ -27,7 +19,7 @@ fn nonzero(p: PreparedBasis, value: u32) -> u32
     let mut n = 0;
     for _ in 0..p.level_count {
         let s = d.step();
-        n += busy(s.digit);
+        n += u32::from(s.digit != 0);
         d = s.next;
     }
     n
@@ -52,8 +44,8 @@ fn write_closed(counts: &mut [u32], p: PreparedBasis)
     let others = gadget_constants::power(p.log_basis) - 1;
     let mut ways = 1;
     let mut words = gadget_constants::power(p.drop_bits);
-    for j in 0..counts.len() {
-        counts[j] = (ways * words) as u32;
+    for (j, count) in counts.iter_mut().enumerate() {
+        *count = (ways * words) as u32;
         ways = ways * (p.level_count - j) as u64 / (j as u64 + 1);
         words *= others;
     }

@@ -9,12 +9,12 @@ power-words-requires c = omega (arith, dropped_most c.args.p c.requires.0)
 pub loop-j-init : goal.loop-j-init
 loop-j-init c = running_none c.args.p c.requires.0 _ c.requires.2 _ _ c.power-others.ensures c.power-words.ensures
 
-pub overflow_mul-counts : goal.overflow_mul-counts
-overflow_mul-counts c =
+pub overflow_mul-count : goal.overflow_mul-count
+overflow_mul-count c =
     omega (arith, product_fits c.args.p c.requires.0 c.requires.1 _ _ _ _ _ (omega (arith, c.requires.2)) c.loop-j.invariant)
 
-pub overflow_cast-counts : goal.overflow_cast-counts
-overflow_cast-counts c =
+pub overflow_cast-count : goal.overflow_cast-count
+overflow_cast-count c =
     omega (arith, product_fits c.args.p c.requires.0 c.requires.1 _ _ _ _ _ (omega (arith, c.requires.2)) c.loop-j.invariant)
 
 pub overflow_mul-ways : goal.overflow_mul-ways
