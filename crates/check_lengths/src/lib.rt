@@ -28,7 +28,7 @@ pub fn ciphertext_differs(len: usize, n: usize) -> bool
     len - 1 != n
 }
 
-// 11: `len` is not a count for each number from 0 to n. No sum: it could overflow.
+// 11: `len` is not a count for each number from 0 to n. Stays beside `ciphertext_differs`, which it calls: counts are no ciphertext.
 pub fn counts_differ(len: usize, n: usize) -> bool
     ensures { result ≡ length_fails len (n + 1) }
 {

@@ -8,6 +8,7 @@ const WORDS: usize = 20;
 const BEFORE: u32 = 0x5eed_5eed;
 
 // What a record expects: the counts, as its bytes have them, or the number of the refusal.
+// Stays: a refusal as its number: no Refusal is made of one, and that of the answer is compared with it.
 #[derive(Clone, Copy)]
 pub struct Expected<'a> {
     basis: ApproxSignedBasis,

@@ -7,7 +7,7 @@ use counts::Expected;
 use std::io::Read;
 use std::rt::Files;
 
-#[derive(Clone, Copy)]
+#[derive(Clone, Copy, Default)]
 struct State {
     counted: u64,
     refused: u64,
@@ -24,67 +24,57 @@ impl State {
     fn fail(&mut self) {
         self.wrong = self.wrong.wrapping_add(1);
     }
-}
 
-fn on_record(input: &mut impl Read, s: &mut State) -> bool {
-    match programs::record::<82>(input) {
-        Some(r) => s.compare(&Expected::new(&r)),
-        None => {
-            s.fail();
-            return false;
+    // A record, if it is whole; the answer is whether it is.
+    fn on_record(&mut self, record: Option<Expected>) -> bool {
+        match record {
+            Some(expected) => self.compare(&expected),
+            None => self.fail(),
+        }
+        record.is_some()
+    }
+
+    // One record, and whether there may be more. The last is a zero byte; anything else is counted as wrong.
+    // Stays: a match on the file's tag, since each stands for a record of another length; and a bool, since what a record was is counted.
+    fn one(&mut self, input: &mut impl Read) -> bool {
+        match programs::record::<1>(input).map(|tag| tag[0]) {
+            Some(1) => {
+                let record = programs::record::<82>(input);
+                self.on_record(record.as_ref().map(|r| Expected::new(r)))
+            }
+            Some(2) => {
+                let record = programs::record::<26>(input);
+                self.on_record(record.as_ref().map(|r| Expected::short(r)))
+            }
+            Some(0) => false,
+            _ => {
+                self.fail();
+                false
+            }
         }
     }
-    true
-}
 
-fn on_short_record(input: &mut impl Read, s: &mut State) -> bool {
-    match programs::record::<26>(input) {
-        Some(r) => s.compare(&Expected::short(&r)),
-        None => {
-            s.fail();
-            return false;
+    // Stays, with `file`, beside those of the other vector programs: other counts, and records of another kind.
+    fn all(&mut self, input: &mut impl Read) {
+        for _record in 0..u64::MAX {
+            if !self.one(input) {
+                return;
+            }
         }
     }
-    true
-}
 
-// One record, and whether there may be more. The last is a zero byte; anything else is counted as wrong.
-// Stays beside `one` of the other vector programs: another count, and records of another kind.
-fn one(input: &mut impl Read, s: &mut State) -> bool {
-    match programs::record::<1>(input).map(|tag| tag[0]) {
-        Some(1) => on_record(input, s),
-        Some(2) => on_short_record(input, s),
-        Some(0) => false,
-        _ => {
-            s.fail();
-            false
+    // The records of the file; one that cannot be opened is wrong.
+    fn file(&mut self, rt: &(impl Files + Eprint)) {
+        match programs::open_named(rt, "counts.bin") {
+            Some(mut file) => self.all(&mut file),
+            None => self.fail(),
         }
-    }
-}
-
-fn all(input: &mut impl Read, s: &mut State) {
-    for _record in 0..u64::MAX {
-        if !one(input, s) {
-            return;
-        }
-    }
-}
-
-// The records of the file; one that cannot be opened is wrong.
-fn file(rt: &(impl Files + Eprint), s: &mut State) {
-    match programs::open_named(rt, "counts.bin") {
-        Some(mut file) => all(&mut file, s),
-        None => s.fail(),
     }
 }
 
 fn main(rt: HostRuntime) {
-    let mut s = State {
-        counted: 0,
-        refused: 0,
-        wrong: 0,
-    };
-    file(&rt, &mut s);
+    let mut s = State::default();
+    s.file(&rt);
     let _ = println!(&rt;
         "counted {}\nrefused {}\nwrong {}",
         s.counted, s.refused, s.wrong

@@ -25,7 +25,7 @@ fn nonzero(p: PreparedBasis, value: u32) -> u32
     n
 }
 
-// Word by word, q × L steps: any explicit modulus.
+// Word by word, q × L steps: any explicit modulus. Stays: q beside the basis: the caller's match has it, and here it is asked to be its modulus.
 fn write_walked(counts: &mut [u32], p: PreparedBasis, q: u32)
     requires { Ready p × (q ≡ size_of p.modulus) × (length counts.old ≡ p.level_count + 1) }
     ensures { counts.new ≡ counts_of (basis_in p) }

@@ -1,10 +1,11 @@
-// What the programs share: a file read whole, a record and what stands in it, words compared.
+// What the programs share: a file read whole, a record and what stands in it, words compared, a number among the arguments.
 #![tactic(auto)]
 
 ghost use Rattle.std.specs.Prelude.{◌≤◌, IfSome, length};
 
 use primus_encoding::PlaintextEmbedding;
 use primus_reduce::Modulus;
+use std::env::{Env, FillError};
 use std::fs;
 use std::io::Read;
 use std::rt::Files;
@@ -82,5 +83,22 @@ pub fn same(x: &[u32], y: &[u32], count: usize) -> bool {
     match (x.get(..count), y.get(..count)) {
         (Some(x), Some(y)) => x == y,
         _ => false,
+    }
+}
+
+fn number_of(digits: &[u8]) -> Option<u32> {
+    match str::from_utf8(digits) {
+        Ok(text) => text.parse().ok(),
+        Err(_) => None,
+    }
+}
+
+// Argument i, a decimal number of 32 bits; where it is not there, what stands for it.
+pub fn argument(rt: &impl Env, i: usize, otherwise: Option<u32>) -> Option<u32> {
+    let mut room = [0u8; 32];
+    match rt.arg(i, &mut room) {
+        Ok(len) => number_of(&room[..len]),
+        Err(FillError::TooLong) => None,
+        Err(FillError::NotPresent) => otherwise,
     }
 }
