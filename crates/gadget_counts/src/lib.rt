@@ -1,5 +1,7 @@
 // Words counted by how many of their digits are not zero. The functions have a `requires`, and are not for users: the call of
 // primus_decompose judges first.
+// Stays: `Ready` is asked of each step, since a PreparedBasis has open fields, and so is the length of `counts`: the language takes no ghost
+// field beside a `&mut`.
 #![tactic(auto)]
 
 ghost use Rattle.std.specs.Prelude.{◌≡◌, ◌+◌, ◌^◌, ◌<◌, length};
