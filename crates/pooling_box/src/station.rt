@@ -115,7 +115,7 @@ fn with_file<'a>(
     serve(rt, params, agreed, key, total, room)
 }
 
-// The switched total goes into `room`.
+// The switched total goes into `room`. Stays: rt and room alone, here and in what is called: the room outlives each of them, as it is main's.
 pub(crate) fn run<'a>(
     rt: &(impl Files + Print + Eprint),
     t: u32,

@@ -43,7 +43,8 @@ impl Command {
     }
 
     // The answer to the operands that were there. Cut off: 19.
-    // Stays: a match of one line a command, each of which tests its own operands, as its definition does.
+    // Stays: a match of one line a command, each of which tests its own operands, as its definition does; and a session beside operands, here
+    // and in those: a struct of the two would be made in one line and taken apart in the next.
     pub fn answer(self, session: Session, operands: &[u8]) -> Turn
         ensures { result ≡ turn_of session self operands.now }
     {

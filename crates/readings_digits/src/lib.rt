@@ -34,7 +34,7 @@ fn of_steps(b: ApproxSignedBasis, start: SignedDecomposer) -> [i64; 16]
     digits
 }
 
-// The L digits of a word, and zeros above them.
+// The L digits of a word, and zeros above them. Stays: an array, with no heap: no basis has more than 16 levels.
 #[tactic(auto, using(crate::proofs::Numbers::shown_digits, crate::proofs::Numbers::no_refusal))]
 pub fn of_word(b: ApproxSignedBasis, word: u32) -> [i64; 16]
     requires { refusal (word_rows b word) ≡ 0 }
