@@ -13,7 +13,7 @@ use lib.Pow.{pow_pos, pow_mono}
 use borrow.Author.Tests.{eqb-true, lt-ltb}
 use Rattle.scheme.specs.Numbers.{tabulate, rows_of}
 use Rattle.scheme.specs.Basis.{weight}
-use Rattle.scheme.specs.Lwe.{Key, signed, encrypted}
+use Rattle.scheme.specs.Lwe.{Key, Errors, error_count, encrypted}
 use Rattle.scheme.specs.Switch.{generated_entry, generated}
 use Rattle.scheme.specs.Checks.{refusal, length_fails}
 use Rattle.scheme.proofs.Residue.{cong_refl, cong_trans, cong_of_eq, cong_mul}
@@ -38,42 +38,42 @@ use Rattle.key_switch_parameters.proofs.Passed.{judged}
 
 -- ---- the loop over the entries, from a secret s to a secret s'
 
--- what it asks, with the weights as words: an entry for each error
-pub record Entering (p : PreparedBasis) (weights : List ℕ) (m : ℕ) (masks : List ℕ) (errors : List ℤ) (room : ℕ) : Type 0 where
+-- what it asks, with the weights as words: `count` of them
+pub record Entering (p : PreparedBasis) (weights : List ℕ) (m : ℕ) (masks : List ℕ) (count room : ℕ) : Type 0 where
   pub ready : Ready p
   pub weighted : (j : ℕ) → j < p.level_count → (j < 16) × (get_or weights j 0 ≡ weight (basis_in p) j)
-  pub fits : room ≡ length errors * (m + 1)
-  pub masked : length masks ≡ length errors * m
+  pub fits : room ≡ count * (m + 1)
+  pub masked : length masks ≡ count * m
 
 -- the entries below k are written over out₀
-abbrev pub Entered : PreparedBasis → ℕ → (ℕ → ℤ) → (ℕ → ℤ) → List ℤ → List ℕ → List ℕ → List ℕ → ℕ → Type 0
-Entered p m s s' errors masks out₀ out k = Filling (generated_entry (basis_in p) m s s' (signed errors) masks) (m + 1) (length errors) out₀ out k
+abbrev pub Entered : PreparedBasis → ℕ → (ℕ → ℤ) → (ℕ → ℤ) → (ℕ → ℤ) → List ℕ → ℕ → List ℕ → List ℕ → ℕ → Type 0
+Entered p m s s' e masks count out₀ out k = Filling (generated_entry (basis_in p) m s s' e masks) (m + 1) (count) out₀ out k
 
-pub entered_start : {p : PreparedBasis} {weights : List ℕ} {m : ℕ} {masks : List ℕ} {errors : List ℤ} (s s' : ℕ → ℤ) (out : List ℕ)
-    → Entering p weights m masks errors (length out) → Entered p m s s' errors masks out out 0
+pub entered_start : {p : PreparedBasis} {weights : List ℕ} {m : ℕ} {masks : List ℕ} {count : ℕ} (s s' e : ℕ → ℤ) (out : List ℕ)
+    → Entering p weights m masks count (length out) → Entered p m s s' e masks count out out 0
 unfolding generated_entry
-entered_start {p} {m = m} {masks = masks} {errors = errors} s s' out g =
-    filling_start _ (m + 1) (length errors) out g.fits (λ k h. encrypted-row (size_of p.modulus) m (length errors) k masks s' _ _ g.masked h)
+entered_start {p} {m = m} {masks = masks} {count = count} s s' e out g =
+    filling_start _ (m + 1) (count) out g.fits (λ k h. encrypted-row (size_of p.modulus) m (count) k masks s' _ _ g.masked h)
 
 q_pos : {p : PreparedBasis} → Ready p → 0 < size_of p.modulus
 q_pos {p} r = omega (arith, r.sound.accepted.fits, pow_pos p.log_basis)
 
-module _ {p : PreparedBasis} {weights : List ℕ} {m : ℕ} {masks : List ℕ} {errors : List ℤ} {room : ℕ} (g : Entering p weights m masks errors room) where
+module _ {p : PreparedBasis} {weights : List ℕ} {m : ℕ} {masks : List ℕ} {count room : ℕ} (g : Entering p weights m masks count room) where
   levels-some : 0 < p.level_count
   levels-some = g.ready.sound.accepted.some_level
 
-  module _ (s s' : ℕ → ℤ) {out₀ out : List ℕ} {k : ℕ} (f : Entered p m s s' errors masks out₀ out k) (h : k < length errors) where
+  module _ (s s' e : ℕ → ℤ) {out₀ out : List ℕ} {k : ℕ} (f : Entered p m s s' e masks count out₀ out k) (h : k < count) where
     -- the words w and v stand for s i and for the plaintext
     pub entered_on : {w v : ℕ} → w ≡ modulo (size_of p.modulus) (s (k / p.level_count)) → v ≡ modulo (size_of p.modulus) (pos w *ℤ pos (get_or weights (k % p.level_count) 0))
-        → {out' : List ℕ} → out' ≡ replaced out (k * (m + 1)) (m + 1) (encrypted (size_of p.modulus) m (take m (drop (k * m) masks)) s' (get_or errors k (pos 0)) (pos v))
-        → Entered p m s s' errors masks out₀ out' (k + 1)
+        → {out' : List ℕ} → out' ≡ replaced out (k * (m + 1)) (m + 1) (encrypted (size_of p.modulus) m (take m (drop (k * m) masks)) s' (e k) (pos v))
+        → Entered p m s s' e masks count out₀ out' (k + 1)
     unfolding generated_entry
-    entered_on {w} {v} ew ev {out'} e =
+    entered_on {w} {v} ew ev {out'} eo =
         filling_next f h out'
-        (e
+        (eo
         ∙ ap (λ x. replaced out (k * (m + 1)) (m + 1) x)
-        (encrypted_cong (size_of p.modulus) m (q_pos g.ready) (take m (drop (k * m) masks)) s' s' (signed errors k) (signed errors k) (pos v) (s (k / p.level_count) *ℤ pos (weight (basis_in p) (k % p.level_count)))
-        (λ i u. cong_refl (size_of p.modulus) (s' i)) (cong_refl (size_of p.modulus) (signed errors k))
+        (encrypted_cong (size_of p.modulus) m (q_pos g.ready) (take m (drop (k * m) masks)) s' s' (e k) (e k) (pos v) (s (k / p.level_count) *ℤ pos (weight (basis_in p) (k % p.level_count)))
+        (λ i u. cong_refl (size_of p.modulus) (s' i)) (cong_refl (size_of p.modulus) (e k))
         (cong_trans (modulo_stands (q_pos g.ready) (pos w *ℤ pos (get_or weights (k % p.level_count) 0)) ev)
         (cong_mul (modulo_stands (q_pos g.ready) (s (k / p.level_count)) ew) (cong_of_eq (size_of p.modulus) (ap pos (g.weighted (k % p.level_count) (mod-lt k levels-some)).1))))))
 
@@ -105,9 +105,9 @@ weights_are b {p} ep r e j h =
     below = omega (arith, weight-below (basis_in p) r.sound.accepted j h, r.sound.accepted.covered, pow_mono {i = (basis_in p).bits} {j = 32} r.sound.bits-within)
 
 -- what the loop asks, with the numbers at hand; and that it writes the key of the parameters
-module _ {P : LweKeySwitchingParameters} {p : PreparedBasis} {masks : List ℕ} {errors : List ℤ} {room : ℕ} (g : Generable P masks errors room)
+module _ {P : LweKeySwitchingParameters} {p : PreparedBasis} {masks : List ℕ} {errors : Errors} {room : ℕ} (g : Generable P masks errors room)
     (r : Ready p × (p ≡ prepared_by P.basis)) {m : ℕ} (em : m ≡ m_in P) where
-  pub entering : {weights : List ℕ} → weights ≡ tabulate 16 (weight_word P.basis) → Entering p weights m masks errors room
+  pub entering : {weights : List ℕ} → weights ≡ tabulate 16 (weight_word P.basis) → Entering p weights m masks (error_count errors) room
   entering ew =
       record {
         ready = r.0;
@@ -116,22 +116,22 @@ module _ {P : LweKeySwitchingParameters} {p : PreparedBasis} {masks : List ℕ} 
         masked = g.masked ∙ ap₂ ◌*◌ (sym g.errored) (sym em);
       }
 
-  pub entered_end : (s s' : ℕ → ℤ) {out₀ out : List ℕ} {k : ℕ} → Entered p m s s' errors masks out₀ out k → length errors ≤ k
-      → out ≡ generated (basis P.basis) (n_in P) (m_in P) s s' (signed errors) masks
+  pub entered_end : (s s' e : ℕ → ℤ) {out₀ out : List ℕ} {k : ℕ} → Entered p m s s' e masks (error_count errors) out₀ out k → error_count errors ≤ k
+      → out ≡ generated (basis P.basis) (n_in P) (m_in P) s s' e masks
   unfolding generated
-  entered_end s s' f h =
-      filling_end f h ∙ ap (λ k. rows_of k (generated_entry (basis_in p) m s s' (signed errors) masks)) g.errored
-      ∙ ap₂ (λ x m. rows_of (n_in P * levels_in P) (generated_entry (basis_in x) m s s' (signed errors) masks)) r.1 em
+  entered_end s s' e f h =
+      filling_end f h ∙ ap (λ k. rows_of k (generated_entry (basis_in p) m s s' e masks)) g.errored
+      ∙ ap₂ (λ x m. rows_of (n_in P * levels_in P) (generated_entry (basis_in x) m s s' e masks)) r.1 em
 
 -- no number applies
-pub record Unrefused (P : LweKeySwitchingParameters) (E : ℕ) (key : Key) (s' masks : List ℕ) (errors : List ℤ) (room : ℕ) : Type 0 where
+pub record Unrefused (P : LweKeySwitchingParameters) (E : ℕ) (key : Key) (s' masks : List ℕ) (errors : Errors) (room : ℕ) : Type 0 where
   pub none : refusal (generate_rows P E key s' masks errors room) ≡ 0
 
-pub generable : {P : LweKeySwitchingParameters} {E : ℕ} {key : Key} {s' masks : List ℕ} {errors : List ℤ} {room : ℕ}
+pub generable : {P : LweKeySwitchingParameters} {E : ℕ} {key : Key} {s' masks : List ℕ} {errors : Errors} {room : ℕ}
     → Unrefused P E key s' masks errors room → Generable P masks errors room
 generable {P} {E} {key} {s'} {masks} {errors} {room} u =
     let no = passed (generate_rows P E key s' masks errors room) u.none in
-    let twelve = neither (length_fails (length masks) (n_in P * levels_in P * m_in P)) (length_fails (length errors) (n_in P * levels_in P)) (no 12 tt) in
+    let twelve = neither (length_fails (length masks) (n_in P * levels_in P * m_in P)) (length_fails (error_count errors) (n_in P * levels_in P)) (no 12 tt) in
     record {
       accepted = (judged P _ u.none).accepted;
       fits = length_ok _ _ (no 11 tt);

@@ -10,7 +10,9 @@ ghost use Rattle.primus_decompose.specs.Answers.{rows, prepared_by};
 ghost use Rattle.lwe_secret_key.specs.Key.{key_of};
 ghost use Rattle.key_switch_parameters.specs.Answers.{q_in, n_in, m_in, levels_in};
 ghost use Rattle.key_switch_entries.specs.Answers.{generate_rows, generated_for, Generable};
+ghost use Rattle.lwe_errors.specs.Errors.{errors_of};
 
+use lwe_errors::LweErrorsRef;
 use check_order::{Refusal, Values};
 use gadget_constants::PreparedBasis;
 use key_switch_parameters::LweKeySwitchingParameters;
@@ -59,22 +61,22 @@ pub fn generate_refusal(
     key: LweSecretKeyRef,
     output_key: &[u32],
     masks: &[u32],
-    errors: &[i32],
+    errors: LweErrorsRef,
     room: usize,
 ) -> Result<(), Refusal>
     ensures { code_of result ≡ refusal (generate_rows params error_limit
         (key_of key.entry) output_key.now
-        masks.now errors.now room) }
+        masks.now (errors_of errors.entry) room) }
 {
     let mut s = params.sizes();
     s.key = keys_differ(params, key, output_key.len());
     s.output = params.key_differs(room);
-    s.lent = lent_differs(params, masks.len(), errors.len());
+    s.lent = lent_differs(params, masks.len(), errors.count());
     s.error_limit = checks::error_limit_refused(error_limit, params.basis.modulus());
     s.judge()?;
     let mut v = Values::default();
-    v.word = words_refused(params, key, output_key, masks);
-    v.error = checks::errors_refused(error_limit, errors);
+    v.word = words_refused(params, key, output_key, masks) | errors.refused(params.basis.modulus());
+    v.error = errors.outside(error_limit, params.basis.modulus());
     v.judge()
 }
 
@@ -98,11 +100,11 @@ pub fn write_entries(
     key: LweSecretKeyRef,
     output_key: &[u32],
     masks: &[u32],
-    errors: &[i32],
+    errors: LweErrorsRef,
 )
-    requires { Generable params masks.now errors.now (length out.old) }
+    requires { Generable params masks.now (errors_of errors.entry) (length out.old) }
     ensures { out.new ≡ generated_for params (key_of key.entry)
-        output_key.now errors.now masks.now }
+        output_key.now (errors_of errors.entry) masks.now }
 {
     let p = prepared(params);
     let modulus = p.modulus;
@@ -110,7 +112,7 @@ pub fn write_entries(
     let m = params.output_dimension.get();
     let weights = params.basis.scalars();
     let output = LweSecretKeyRef::Encoded(output_key);
-    for k in 0..errors.len() {
+    for k in 0..errors.count() {
         let i = k / p.level_count;
         let j = k % p.level_count;
         let secret = key.residue(i, modulus);

@@ -1,7 +1,7 @@
 -- What keys are judged by, and what the calls promise.
-use Rattle.std.specs.Prelude.{Bool, ◌||◌, List, [], ◌∷◌, ◌++◌, ℕ, ◌+◌, ◌*◌, eqb, leb, ℤ, length, Option, None, Some, Result}
+use Rattle.std.specs.Prelude.{Bool, ◌||◌, List, [], ◌∷◌, ◌++◌, ℕ, ◌+◌, ◌*◌, eqb, leb, length, Option, None, Some, Result}
 use Rattle.scheme.specs.Numbers.{pick}
-use Rattle.scheme.specs.Lwe.{Key}
+use Rattle.scheme.specs.Lwe.{Key, Errors}
 use Rattle.scheme.specs.Switch.{entry_number, entry_of}
 use Rattle.scheme.specs.Checks.{Check, row, refusal, Writes, length_fails}
 use Rattle.check_order.specs.declared.refusal.Refusal.{Refusal}
@@ -31,7 +31,7 @@ entry_part P key i j =
     []
 
 -- "Entry (i, j) encrypts sᵢ × weight j under the output key. Masks and errors are lent in entry order"
-pub record Generates (P : LweKeySwitchingParameters) (E : ℕ) (key : Key) (s' masks : List ℕ) (errors : List ℤ)
+pub record Generates (P : LweKeySwitchingParameters) (E : ℕ) (key : Key) (s' masks : List ℕ) (errors : Errors)
     (before : List ℕ) (r : ℕ) (after : List ℕ) : Type 0 where
   pub writes :
       Writes (generate_rows P E key s' masks errors (length before))

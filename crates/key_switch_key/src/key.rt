@@ -4,7 +4,9 @@ ghost use Rattle.scheme.specs.Checks.{refusal};
 ghost use Rattle.check_order.specs.Answer.{code_of};
 ghost use Rattle.lwe_secret_key.specs.Key.{key_of};
 ghost use Rattle.key_switch_key.specs.Answers.{entry_rows, entry_answer, entry_part, Generates};
+ghost use Rattle.lwe_errors.specs.Errors.{errors_of};
 
+use lwe_errors::LweErrorsRef;
 use check_order::Refusal;
 use key_switch_entries::{generate_refusal, write_entries};
 use key_switch_parameters::LweKeySwitchingParameters;
@@ -68,11 +70,11 @@ impl LweKeySwitchingKey {
         input_key: LweSecretKeyRef,
         output_key: &[u32],
         masks: &[u32],
-        errors: &[i32],
+        errors: LweErrorsRef,
         out: &mut [u32],
     ) -> Result<(), Refusal>
         ensures { Generates params error_limit (key_of input_key.entry)
-            output_key.now masks.now errors.now
+            output_key.now masks.now (errors_of errors.entry)
             out.old (code_of result) out.new }
     {
         generate_refusal(

@@ -5,7 +5,9 @@ ghost use Rattle.scheme.specs.Checks.{refusal};
 ghost use Rattle.check_order.specs.Answer.{code_of};
 ghost use Rattle.lwe_parameters.specs.Answers.{judged_rows};
 ghost use Rattle.lwe_batch_refusals.specs.Rows.{encrypt_batch_rows, batch_rows};
+ghost use Rattle.lwe_errors.specs.Errors.{errors_of};
 
+use lwe_errors::LweErrorsRef;
 use check_order::{Refusal, Values};
 use lwe_parameters::{LweParameters, LwePhaseParameters};
 
@@ -15,23 +17,23 @@ pub fn encrypt_refusal(
     params: LweParameters,
     secret: &[u32],
     masks: &[u32],
-    errors: &[i32],
+    errors: LweErrorsRef,
     messages: &[u32],
     room: usize,
 ) -> Result<(), Refusal>
     ensures { code_of result ≡ refusal (encrypt_batch_rows params (Words secret.now) masks.now
-        errors.now messages.now room) }
+        (errors_of errors.entry) messages.now room) }
 {
     let count = messages.len();
     let n = params.dimension.get();
     let mut s = params.sizes();
     s.key = params.dimension.differs(secret.len());
     s.output = checks::ciphertexts_differ(room, count, n);
-    s.lent = checks::masks_or_errors_differ(masks.len(), errors.len(), count, n);
+    s.lent = checks::masks_or_errors_differ(masks.len(), errors.count(), count, n);
     s.judge()?;
     let mut v = Values::default();
-    v.word = checks::both_refused(params.modulus, secret, masks);
-    v.error = checks::errors_refused(params.error_limit, errors);
+    v.word = checks::both_refused(params.modulus, secret, masks) | errors.refused(params.modulus);
+    v.error = errors.outside(params.error_limit, params.modulus);
     v.message = checks::messages_refused(params.plaintext_modulus, messages);
     v.judge()
 }

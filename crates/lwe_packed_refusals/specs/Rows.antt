@@ -1,6 +1,7 @@
 -- What each call on a packed ciphertext is judged by.
-use Rattle.std.specs.Prelude.{List, [], ◌∷◌, ◌++◌, ℕ, ◌+◌, ◌-◌, ℤ, Option, length}
-use Rattle.scheme.specs.Checks.{Check, row, length_fails, count_fails, packed_fails, words_fail, errors_fail, messages_fail}
+use Rattle.std.specs.Prelude.{List, [], ◌∷◌, ◌++◌, ℕ, ◌+◌, ◌-◌, Option, length}
+use Rattle.scheme.specs.Lwe.{Errors, error_count, error_values}
+use Rattle.scheme.specs.Checks.{Check, row, length_fails, count_fails, packed_fails, words_fail, error_words_fail, errors_fail, messages_fail}
 use Rattle.primus_reduce.specs.Ring.{size_of}
 use Rattle.lwe_parameters.specs.declared.parameter.LweEncryptionParameters.{LweEncryptionParameters}
 use Rattle.lwe_parameters.specs.declared.parameter.LweParameters.{LweParameters}
@@ -9,32 +10,34 @@ use Rattle.lwe_parameters.specs.declared.parameter.LweDecryptionParameters.{LweD
 use Rattle.lwe_parameters.specs.Answers.{phase_parameters_rows, decryption_parameters_rows, encryption_parameters_rows, parameters_rows, judged_rows}
 
 -- a packed encryption of the words ps under the words s, with mask a and an error for each, into `room` words
-abbrev pub packed_rows : LweEncryptionParameters → List ℕ → List ℕ → List ℤ → List ℕ → ℕ → List Check
+abbrev pub packed_rows : LweEncryptionParameters → List ℕ → List ℕ → Errors → List ℕ → ℕ → List Check
 packed_rows P s a es ps room =
     encryption_parameters_rows P
     ++ row (length_fails (length s) P.dimension.0) 9
     ∷ row (count_fails (length ps) P.dimension.0) 10
     ∷ row (length_fails room (P.dimension.0 + length ps)) 11
     ∷ row (length_fails (length a) P.dimension.0) 12
-    ∷ row (length_fails (length es) (length ps)) 12
+    ∷ row (length_fails (error_count es) (length ps)) 12
+    ∷ row (error_words_fail (size_of P.modulus) es) 14
     ∷ row (words_fail (size_of P.modulus) s) 14
     ∷ row (words_fail (size_of P.modulus) a) 14
     ∷ row (words_fail (size_of P.modulus) ps) 14
-    ∷ row (errors_fail P.error_limit es) 15
+    ∷ row (errors_fail P.error_limit (error_values (size_of P.modulus) es)) 15
     ∷ []
 
 -- of the messages xs below t
-abbrev pub packed_message_rows : LweParameters → List ℕ → List ℕ → List ℤ → List ℕ → ℕ → List Check
+abbrev pub packed_message_rows : LweParameters → List ℕ → List ℕ → Errors → List ℕ → ℕ → List Check
 packed_message_rows P s a es xs room =
     parameters_rows P
     ++ row (length_fails (length s) P.dimension.0) 9
     ∷ row (count_fails (length xs) P.dimension.0) 10
     ∷ row (length_fails room (P.dimension.0 + length xs)) 11
     ∷ row (length_fails (length a) P.dimension.0) 12
-    ∷ row (length_fails (length es) (length xs)) 12
+    ∷ row (length_fails (error_count es) (length xs)) 12
+    ∷ row (error_words_fail (size_of P.modulus) es) 14
     ∷ row (words_fail (size_of P.modulus) s) 14
     ∷ row (words_fail (size_of P.modulus) a) 14
-    ∷ row (errors_fail P.error_limit es) 15
+    ∷ row (errors_fail P.error_limit (error_values (size_of P.modulus) es)) 15
     ∷ row (messages_fail P.plaintext_modulus xs) 16
     ∷ []
 

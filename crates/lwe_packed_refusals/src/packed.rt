@@ -4,7 +4,9 @@ ghost use Rattle.scheme.specs.Checks.{refusal, length_fails, count_fails, words_
 ghost use Rattle.primus_reduce.specs.Ring.{size_of};
 ghost use Rattle.check_order.specs.Answer.{code_of};
 ghost use Rattle.lwe_packed_refusals.specs.Rows.{packed_rows};
+ghost use Rattle.lwe_errors.specs.Errors.{errors_of};
 
+use lwe_errors::LweErrorsRef;
 use check_order::{Refusal, Values};
 use lwe_parameters::LweEncryptionParameters;
 use primus_lattice::LweDimension;
@@ -40,12 +42,12 @@ pub fn packed_refusal(
     params: LweEncryptionParameters,
     secret: &[u32],
     mask: &[u32],
-    errors: &[i32],
+    errors: LweErrorsRef,
     plaintexts: &[u32],
     room: usize,
 ) -> Result<(), Refusal>
     ensures { code_of result ≡ refusal (packed_rows params secret.now mask.now
-        errors.now plaintexts.now room) }
+        (errors_of errors.entry) plaintexts.now room) }
 {
     let dimension = params.dimension;
     let count = plaintexts.len();
@@ -53,10 +55,10 @@ pub fn packed_refusal(
     s.key = dimension.differs(secret.len());
     s.input = count_refused(dimension, count);
     s.output = room_differs(dimension, room, count);
-    s.lent = checks::lengths_differ(mask.len(), dimension.get(), errors.len(), count);
+    s.lent = checks::lengths_differ(mask.len(), dimension.get(), errors.count(), count);
     s.judge()?;
     let mut v = Values::default();
-    v.word = words_refused(params.modulus, secret, mask, plaintexts);
-    v.error = checks::errors_refused(params.error_limit, errors);
+    v.word = words_refused(params.modulus, secret, mask, plaintexts) | errors.refused(params.modulus);
+    v.error = errors.outside(params.error_limit, params.modulus);
     v.judge()
 }

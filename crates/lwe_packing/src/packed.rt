@@ -3,7 +3,9 @@ ghost use Rattle.std.specs.Prelude.{◌≡◌, ◌+◌, ◌-◌, ◌<◌, ◌≤
 ghost use Rattle.scheme.specs.Numbers.{residue, tabulate};
 ghost use Rattle.scheme.specs.Lwe.{words, signed, packed, packed_phase};
 ghost use Rattle.primus_reduce.specs.Ring.{size_of, modulo};
+ghost use Rattle.lwe_errors.specs.Errors.{errors_in};
 
+use lwe_errors::LweErrorsRef;
 use lwe_secret_key::body;
 use primus_reduce::{Factor, Ring};
 
@@ -45,13 +47,13 @@ impl<'a> Rotation<'a> {
 
     // Body i: its mask product plus error i and the plaintext. Stays: errors and i, as in `encrypt_to` of lwe_secret_key.
     #[tactic(auto, using(crate::proofs::Laws::body_is))]
-    fn body(self, errors: &[i32], i: usize, plaintext: u32) -> u32
+    fn body(self, errors: LweErrorsRef, i: usize, plaintext: u32) -> u32
         requires { i < length self.mask.now }
-        ensures { result ≡ residue (rotated_by self.entry i +ℤ signed errors.now i +ℤ pos plaintext)
+        ensures { result ≡ residue (rotated_by self.entry i +ℤ errors_in self.entry.ring.modulus errors.entry i +ℤ pos plaintext)
             (size_of self.entry.ring.modulus) }
     {
         let product = self.product(i);
-        let error = Factor::residue_at(errors, i, self.ring.modulus);
+        let error = errors.residue(i, self.ring.modulus);
         body(product, error, plaintext, self.ring)
     }
 }
@@ -73,12 +75,12 @@ pub fn phases(out: &mut [u32], input: &[u32], secret: &[u32], ring: Ring)
 
 // A mask, and then the bodies, which hold their plaintexts.
 #[tactic(auto, using(scheme::proofs::Lists::is_tabulate), unfolding(scheme::specs::Lwe::packed))]
-pub fn write_packed(out: &mut [u32], mask: &[u32], secret: &[u32], errors: &[i32], ring: Ring)
+pub fn write_packed(out: &mut [u32], mask: &[u32], secret: &[u32], errors: LweErrorsRef, ring: Ring)
     requires { let n = length mask.now in
         (length secret.now ≡ n) × (n ≤ length out.old) × (length out.old ≤ n + n) }
     ensures { let n = length mask.now in
         out.new ≡ packed (size_of ring.modulus) n (length out.old - n) mask.now
-        (words secret.now) (signed errors.now) (words (drop n out.old)) }
+        (words secret.now) (errors_in ring.modulus errors.entry) (words (drop n out.old)) }
 {
     let (front, bodies) = out.split_at_mut(mask.len());
     front.copy_from_slice(mask);

@@ -62,19 +62,19 @@ started q p w f xs v h some size at ev = is_tabulate w _ _ (length-set xs (w - 1
         rw z (get_or-set_same xs (w - 1) v 0 (omega (arith, some, size)) ∙ start_body q (w - 1) (w - 1) f h _ (at (w - 1) (omega (arith, some))) p refl ev)
     go k l (no z) = get_or-set_other xs (w - 1) k v 0 z ∙ start_mask q (w - 1) k f h _ (at k l) p z
 
-module _ (q n : ℕ) (key : List ℕ) (es rs : List ℤ) (room : ℕ) (positive : 0 < q) (ok : Public n key rs room) (p : ℕ) where
+module _ (q n : ℕ) (key : List ℕ) (f : ℕ → ℤ) (rs : List ℤ) (room : ℕ) (positive : 0 < q) (ok : Public n key rs room) (p : ℕ) where
   -- before the first row
-  pub public_start : (x : List ℕ) → x ≡ tabulate room (start_word q (room - 1) (signed es) p) → Upto q n key (signed es) (pos p) (signed rs) 0 x
+  pub public_start : (x : List ℕ) → x ≡ tabulate room (start_word q (room - 1) f p) → Upto q n key f (pos p) (signed rs) 0 x
   unfolding start_word
   public_start x e =
-      upto_start q positive n key (signed es) (pos p) (signed rs) x (ap length e ∙ length-tabulate room _ ∙ ok.fits)
+      upto_start q positive n key f (pos p) (signed rs) x (ap length e ∙ length-tabulate room _ ∙ ok.fits)
       (λ k a. cong_trans (cong_of_eq q (ap pos (word k a))) (stands positive _))
-      (λ k a. rw (word k a) (residue_lt (signed es k +ℤ pick (eqb k n) (pos p) (pos 0)) q positive))
+      (λ k a. rw (word k a) (residue_lt (f k +ℤ pick (eqb k n) (pos p) (pos 0)) q positive))
     where
-      word : (k : ℕ) → k ≤ n → get_or x k 0 ≡ start_word q n (signed es) p k
-      word k a = ap (λ l. get_or l k 0) e ∙ get_d_tabulate room (start_word q (room - 1) (signed es) p) k (omega (arith, ok.fits)) ∙ ap (λ m. start_word q m (signed es) p k) (omega (arith, ok.fits))
+      word : (k : ℕ) → k ≤ n → get_or x k 0 ≡ start_word q n f p k
+      word k a = ap (λ l. get_or l k 0) e ∙ get_d_tabulate room (start_word q (room - 1) f p) k (omega (arith, ok.fits)) ∙ ap (λ m. start_word q m f p k) (omega (arith, ok.fits))
 
-  module _ (i : ℕ) (x : List ℕ) (u : Upto q n key (signed es) (pos p) (signed rs) i x) (h : i < n) where
+  module _ (i : ℕ) (x : List ℕ) (u : Upto q n key f (pos p) (signed rs) i x) (h : i < n) where
     pub public_part : i * (n + 1) + (n + 1) ≤ length key
     public_part = omega (arith, row_within (n + 1) n i h, ok.rows)
 
@@ -88,12 +88,12 @@ module _ (q n : ℕ) (key : List ℕ) (es rs : List ℤ) (room : ℕ) (positive 
     public_same = u.sized ∙ sym row-size
 
     pub public_below : Below q x
-    public_below k a = rw (u.word k (omega (arith, u.sized))) (residue_lt (up_to n key (signed es) (pos p) (signed rs) i k) q positive)
+    public_below k a = rw (u.word k (omega (arith, u.sized))) (residue_lt (up_to n key f (pos p) (signed rs) i k) q positive)
 
     -- one row more
     pub public_next : (y : List ℕ) → y ≡ zip_with (plus_times q (get_or rs i (pos 0))) x (take (i * (n + 1) + (n + 1) - i * (n + 1)) (drop (i * (n + 1)) key))
-        → Upto q n key (signed es) (pos p) (signed rs) (i + 1) y
+        → Upto q n key f (pos p) (signed rs) (i + 1) y
     public_next y e =
-        upto_next q positive n key (signed es) (pos p) (signed rs) i x y u (ap length e ∙ length_zip _ x _ public_same ∙ u.sized)
+        upto_next q positive n key f (pos p) (signed rs) i x y u (ap length e ∙ length_zip _ x _ public_same ∙ u.sized)
         (λ k a. ap (λ l. get_or l k 0) e ∙ zip_at (plus_times q (get_or rs i (pos 0))) x _ k public_same (omega (arith, u.sized))
         ∙ ap (λ w. plus_times q (get_or rs i (pos 0)) (get_or x k 0) w) (ap (λ m. get_or (take m (drop (i * (n + 1)) key)) k 0) size ∙ part_at (n + 1) key i k (omega arith)))

@@ -7,7 +7,9 @@ ghost use Rattle.scheme.specs.Switch.{Below};
 ghost use Rattle.primus_reduce.specs.Ring.{size_of};
 ghost use Rattle.lwe_secret_key.specs.Key.{key_of};
 ghost use Rattle.lwe_public_rows.specs.Public.{plus_times, start_word, Public};
+ghost use Rattle.lwe_errors.specs.Errors.{errors_in};
 
+use lwe_errors::LweErrorsRef;
 use lwe_secret_key::LweSecretKeyRef;
 use primus_reduce::{Factor, Ring};
 use std::cmp::Ordering;
@@ -18,12 +20,12 @@ pub fn write_zeros(
     key: LweSecretKeyRef,
     masks: &[u32],
     n: usize,
-    errors: &[i32],
+    errors: LweErrorsRef,
     ring: Ring,
 )
     requires { (length masks.now ≡ n * n) × (length out.old ≡ n * (n + 1)) }
     ensures { out.new ≡ public_key (size_of ring.modulus) n masks.now
-        (secret_of (key_of key.entry)) (errorsOf errors.now) }
+        (secret_of (key_of key.entry)) (errors_in ring.modulus errors.entry) }
 {
     for i in 0..n {
         lwe_secret_key::encrypt_row(key, out, masks, n, errors, i, 0, ring);
@@ -32,13 +34,13 @@ pub fn write_zeros(
 
 // Before any row: the errors, and in the body the plaintext too.
 #[tactic(auto, using(crate::proofs::Laws::started))]
-fn start(out: &mut [u32], errors: &[i32], plaintext: u32, ring: Ring)
+fn start(out: &mut [u32], errors: LweErrorsRef, plaintext: u32, ring: Ring)
     requires { 0 < length out.old }
     ensures { out.new ≡ tabulate (length out.old)
-        (start_word (size_of ring.modulus) (length out.old - 1) (errorsOf errors.now) plaintext) }
+        (start_word (size_of ring.modulus) (length out.old - 1) (errors_in ring.modulus errors.entry) plaintext) }
 {
     for (k, x) in out.iter_mut().enumerate() {
-        *x = Factor::residue_at(errors, k, ring.modulus);
+        *x = errors.residue(k, ring.modulus);
     }
     let last = out.len() - 1;
     out[last] = ring.modulus.reduce_add(out[last], plaintext);
@@ -72,14 +74,14 @@ fn add_multiple(out: &mut [u32], row: &[u32], r: i32, ring: Ring)
 pub fn write_public(
     out: &mut [u32],
     key: &[u32],
-    errors: &[i32],
+    errors: LweErrorsRef,
     coefficients: &[i32],
     plaintext: u32,
     ring: Ring,
 )
     requires { Public (length coefficients.now) key.now coefficients.now (length out.old) }
     ensures { out.new ≡ public_encrypted (size_of ring.modulus) (length coefficients.now)
-        key.now (errorsOf errors.now) (pos plaintext) (errorsOf coefficients.now) }
+        key.now (errors_in ring.modulus errors.entry) (pos plaintext) (errorsOf coefficients.now) }
 {
     let n = coefficients.len();
     start(out, errors, plaintext, ring);

@@ -6,7 +6,9 @@ ghost use Rattle.check_order.specs.Answer.{code_of};
 ghost use Rattle.lwe_secret_key.specs.Key.{key_of};
 ghost use Rattle.lwe_refusals.specs.Rows.{encrypt_rows, ciphertext_rows};
 ghost use Rattle.lwe_parameters.specs.Answers.{judged_rows};
+ghost use Rattle.lwe_errors.specs.Errors.{errors_of};
 
+use lwe_errors::LweErrorsRef;
 use check_order::{Refusal, Values};
 use lwe_parameters::{LweEncryptionParameters, LwePhaseParameters};
 use lwe_secret_key::LweSecretKeyRef;
@@ -26,20 +28,20 @@ pub fn encrypt_refusal(
     params: LweEncryptionParameters,
     key: LweSecretKeyRef,
     mask: &[u32],
-    errors: &[i32],
+    errors: LweErrorsRef,
     plaintext: u32,
     room: usize,
 ) -> Result<(), Refusal>
-    ensures { code_of result ≡ refusal (encrypt_rows params (key_of key.entry) mask.now errors.now plaintext room) }
+    ensures { code_of result ≡ refusal (encrypt_rows params (key_of key.entry) mask.now (errors_of errors.entry) plaintext room) }
 {
     let mut s = params.sizes();
     s.key = key.differs(params.dimension);
     s.output = params.dimension.ciphertext_differs(room);
-    s.lent = checks::lengths_differ(mask.len(), params.dimension.get(), errors.len(), 1);
+    s.lent = checks::lengths_differ(mask.len(), params.dimension.get(), errors.count(), 1);
     s.judge()?;
     let mut v = Values::default();
-    v.word = word_refused(key, params.modulus, mask, plaintext);
-    v.error = checks::errors_refused(params.error_limit, errors);
+    v.word = word_refused(key, params.modulus, mask, plaintext) | errors.refused(params.modulus);
+    v.error = errors.outside(params.error_limit, params.modulus);
     v.judge()
 }
 

@@ -5,7 +5,9 @@ ghost use Rattle.scheme.specs.Numbers.{residue};
 ghost use Rattle.primus_reduce.specs.Ring.{size_of};
 ghost use Rattle.lwe_secret_key.specs.Key.{key_of};
 ghost use Rattle.lwe_secret_key.specs.Runs.{replaced};
+ghost use Rattle.lwe_errors.specs.Errors.{errors_in};
 
+use lwe_errors::LweErrorsRef;
 use crate::key::LweSecretKeyRef;
 use primus_reduce::{Factor, Ring};
 
@@ -35,17 +37,17 @@ pub fn encrypt_to(
     key: LweSecretKeyRef,
     out: &mut [u32],
     mask: &[u32],
-    errors: &[i32],
+    errors: LweErrorsRef,
     i: usize,
     plaintext: u32,
     ring: Ring,
 )
     requires { length out.old ≡ length mask.now + 1 }
     ensures { out.new ≡ encrypted (size_of ring.modulus) (length mask.now) mask.now
-        (secret_of (key_of key.entry)) (get_or errors.now i (pos 0)) (pos plaintext) }
+        (secret_of (key_of key.entry)) (errors_in ring.modulus errors.entry i) (pos plaintext) }
 {
     let sum = key.product(mask, ring.modulus);
-    let error = Factor::residue_at(errors, i, ring.modulus);
+    let error = errors.residue(i, ring.modulus);
     write(out, mask, body(sum, error, plaintext, ring));
 }
 
@@ -56,7 +58,7 @@ pub fn encrypt_row(
     out: &mut [u32],
     masks: &[u32],
     n: usize,
-    errors: &[i32],
+    errors: LweErrorsRef,
     i: usize,
     plaintext: u32,
     ring: Ring,
@@ -64,7 +66,7 @@ pub fn encrypt_row(
     requires { (i * n + n ≤ length masks.now) × (i * (n + 1) + (n + 1) ≤ length out.old) }
     ensures { out.new ≡ replaced out.old (i * (n + 1)) (n + 1)
         (encrypted (size_of ring.modulus) n (take n (drop (i * n) masks.now))
-        (secret_of (key_of key.entry)) (get_or errors.now i (pos 0)) (pos plaintext)) }
+        (secret_of (key_of key.entry)) (errors_in ring.modulus errors.entry i) (pos plaintext)) }
 {
     let from = i * n;
     let at = i * (n + 1);

@@ -1,6 +1,6 @@
 -- What each call promises.
 use Rattle.std.specs.Prelude.{List, ◌≡◌, ℕ, ℤ, pos, length, get_or, Result}
-use Rattle.scheme.specs.Lwe.{Key, secret_of, encrypted, phase_of}
+use Rattle.scheme.specs.Lwe.{Key, secret_of, encrypted, phase_of, Errors, error_of}
 use Rattle.scheme.specs.Codec.{decode}
 use Rattle.scheme.specs.Tally.{Fresh}
 use Rattle.primus_reduce.specs.Ring.{size_of}
@@ -19,11 +19,11 @@ use Rattle.lwe_refusals.specs.Rows.{encrypt_rows, phase_rows, message_rows, decr
 -- ---- a plaintext, and its phase
 
 -- "b = ⟨a, s⟩ + e + p": the output holds a and b, and has tally E
-pub record Encrypts (P : LweEncryptionParameters) (key : Key) (a : List ℕ) (es : List ℤ) (p : ℕ) (before : List ℕ)
+pub record Encrypts (P : LweEncryptionParameters) (key : Key) (a : List ℕ) (es : Errors) (p : ℕ) (before : List ℕ)
     (given : Result LweTag Refusal) (after : List ℕ) : Type 0 where
   pub writes :
       WritesTagged (encrypt_rows P key a es p (length before)) (tag_from (Fresh P.error_limit))
-      (encrypted (size_of P.modulus) P.dimension.0 a (secret_of key) (get_or es 0 (pos 0)) (pos p))
+      (encrypted (size_of P.modulus) P.dimension.0 a (secret_of key) (error_of (size_of P.modulus) es 0) (pos p))
       before given after
 
 -- "Phase = b − ⟨a, s⟩"
@@ -40,11 +40,11 @@ abbrev pub encodings : PlaintextEmbedding → LweParameters → List ℕ → ℕ
 encodings g P xs i = encoded g P (get_or xs i 0)
 
 -- "b = ⟨a, s⟩ + e + p" of the plaintext p of x, with tally E
-pub record EncryptsMessage (P : LweParameters) (g : PlaintextEmbedding) (key : Key) (a : List ℕ) (es : List ℤ) (x : ℕ)
+pub record EncryptsMessage (P : LweParameters) (g : PlaintextEmbedding) (key : Key) (a : List ℕ) (es : Errors) (x : ℕ)
     (before : List ℕ) (given : Result LweTag Refusal) (after : List ℕ) : Type 0 where
   pub writes :
       WritesTagged (message_rows P key a es x (length before)) (tag_from (Fresh P.error_limit))
-      (encrypted (size_of P.modulus) P.dimension.0 a (secret_of key) (get_or es 0 (pos 0)) (encoded g P x))
+      (encrypted (size_of P.modulus) P.dimension.0 a (secret_of key) (error_of (size_of P.modulus) es 0) (encoded g P x))
       before given after
 
 -- the message is the decoded phase

@@ -1,7 +1,7 @@
 -- What each call on a batch promises. Masks and errors are lent in order of the rows.
-use Rattle.std.specs.Prelude.{List, ℕ, ◌+◌, ◌/◌, ℤ, length, Result}
+use Rattle.std.specs.Prelude.{List, ℕ, ◌+◌, ◌/◌, length, Result}
 use Rattle.scheme.specs.Numbers.{tabulate}
-use Rattle.scheme.specs.Lwe.{Key, secret_of, signed, encrypted_rows, phase_of, row_of}
+use Rattle.scheme.specs.Lwe.{Key, secret_of, encrypted_rows, phase_of, row_of, Errors, error_of}
 use Rattle.scheme.specs.Codec.{decode}
 use Rattle.scheme.specs.Checks.{Writes}
 use Rattle.primus_reduce.specs.Ring.{size_of}
@@ -17,11 +17,11 @@ use Rattle.lwe_tag.specs.Answers.{tag_from, WritesTagged}
 use Rattle.scheme.specs.Tally.{Fresh}
 
 -- each row is one encryption, with tally E
-pub record EncryptsBatch (P : LweParameters) (g : PlaintextEmbedding) (key : Key) (masks : List ℕ) (es : List ℤ)
+pub record EncryptsBatch (P : LweParameters) (g : PlaintextEmbedding) (key : Key) (masks : List ℕ) (es : Errors)
     (xs before : List ℕ) (given : Result LweTag Refusal) (after : List ℕ) : Type 0 where
   pub writes :
       WritesTagged (encrypt_batch_rows P key masks es xs (length before)) (tag_from (Fresh P.error_limit))
-      (encrypted_rows (size_of P.modulus) P.dimension.0 (length xs) masks (secret_of key) (signed es)
+      (encrypted_rows (size_of P.modulus) P.dimension.0 (length xs) masks (secret_of key) (error_of (size_of P.modulus) es)
       (encodings g P xs))
       before given after
 

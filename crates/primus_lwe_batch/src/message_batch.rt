@@ -8,7 +8,9 @@ ghost use Rattle.check_order.specs.Answer.{code_of};
 ghost use Rattle.codec_words.specs.Embedding.{encode_word};
 ghost use Rattle.lwe_secret_key.specs.Runs.{Run};
 ghost use Rattle.primus_lwe_batch.specs.Answers.{EncryptsBatch, batch_phase, TakesPhases, DecryptsBatch};
+ghost use Rattle.lwe_errors.specs.Errors.{errors_of, errors_in};
 
+use lwe_errors::LweErrorsRef;
 use check_order::Refusal;
 use codec_words::{Moduli, PlaintextEmbedding};
 use lwe_batch_refusals::{decrypt_refusal, encrypt_refusal};
@@ -25,14 +27,14 @@ fn write_messages(
     embedding: PlaintextEmbedding,
     secret: &[u32],
     masks: &[u32],
-    errors: &[i32],
+    errors: LweErrorsRef,
     messages: &[u32],
 )
     requires { Run (length secret.now) (length masks.now) (length messages.now) (length out.old)
         × (messages_fail moduli.t messages.now ≡ false) }
     ensures { out.new ≡
         encrypted_rows (size_of moduli.modulus) (length secret.now) (length messages.now)
-        masks.now (words secret.now) (signed errors.now)
+        masks.now (words secret.now) (errors_in moduli.modulus errors.entry)
         (λ i. pos (encode_word embedding (size_of moduli.modulus) moduli.t (get_or messages.now i 0))) }
 {
     let key = LweSecretKeyRef::Encoded(secret);
@@ -50,12 +52,12 @@ pub fn encrypt_message_batch_to(
     embedding: PlaintextEmbedding,
     secret: &[u32],
     masks: &[u32],
-    errors: &[i32],
+    errors: LweErrorsRef,
     messages: &[u32],
     out: &mut [u32],
 ) -> Result<LweTag, Refusal>
     ensures { EncryptsBatch params embedding (Words secret.now) masks.now
-        errors.now messages.now out.old result out.new }
+        (errors_of errors.entry) messages.now out.old result out.new }
 {
     encrypt_refusal(params, secret, masks, errors, messages, out.len())?;
     let moduli = Moduli {

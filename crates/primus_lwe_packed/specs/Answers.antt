@@ -1,7 +1,7 @@
 -- What each call promises.
-use Rattle.std.specs.Prelude.{List, ℕ, ◌-◌, ℤ, length, Result}
+use Rattle.std.specs.Prelude.{List, ℕ, ◌-◌, length, Result}
 use Rattle.scheme.specs.Numbers.{tabulate}
-use Rattle.scheme.specs.Lwe.{words, signed, packed, packed_phase}
+use Rattle.scheme.specs.Lwe.{words, packed, packed_phase, Errors, error_of}
 use Rattle.scheme.specs.Codec.{decode}
 use Rattle.scheme.specs.Tally.{Packed}
 use Rattle.scheme.specs.Checks.{Writes}
@@ -20,19 +20,19 @@ use Rattle.primus_lwe.specs.Answers.{encodings}
 -- ---- encryption
 
 -- "Packed: count c from 0 to n, n masks, then c bodies"
-pub record EncryptsPacked (P : LweEncryptionParameters) (s a : List ℕ) (es : List ℤ) (ps before : List ℕ)
+pub record EncryptsPacked (P : LweEncryptionParameters) (s a : List ℕ) (es : Errors) (ps before : List ℕ)
     (answer : Result LweTag Refusal) (after : List ℕ) : Type 0 where
   pub writes :
       WritesTagged (packed_rows P s a es ps (length before)) (tag_from Packed)
-      (packed (size_of P.modulus) P.dimension.0 (length ps) a (words s) (signed es) (words ps))
+      (packed (size_of P.modulus) P.dimension.0 (length ps) a (words s) (error_of (size_of P.modulus) es) (words ps))
       before answer after
 
 -- each body holds the plaintext of a message
-pub record EncryptsPackedMessages (P : LweParameters) (g : PlaintextEmbedding) (s a : List ℕ) (es : List ℤ)
+pub record EncryptsPackedMessages (P : LweParameters) (g : PlaintextEmbedding) (s a : List ℕ) (es : Errors)
     (xs before : List ℕ) (answer : Result LweTag Refusal) (after : List ℕ) : Type 0 where
   pub writes :
       WritesTagged (packed_message_rows P s a es xs (length before)) (tag_from Packed)
-      (packed (size_of P.modulus) P.dimension.0 (length xs) a (words s) (signed es) (encodings g P xs))
+      (packed (size_of P.modulus) P.dimension.0 (length xs) a (words s) (error_of (size_of P.modulus) es) (encodings g P xs))
       before answer after
 
 -- ---- decryption

@@ -5,7 +5,9 @@ ghost use Rattle.primus_reduce.specs.Ring.{size_of};
 ghost use Rattle.codec_words.specs.Embedding.{encode_word};
 ghost use Rattle.check_order.specs.Answer.{code_of};
 ghost use Rattle.primus_lwe_packed.specs.Answers.{EncryptsPackedMessages, DecryptsPacked};
+ghost use Rattle.lwe_errors.specs.Errors.{errors_of};
 
+use lwe_errors::LweErrorsRef;
 use check_order::Refusal;
 use codec_words::{Moduli, PlaintextEmbedding};
 use lwe_packed_refusals::{packed_decrypt_refusal, packed_message_refusal};
@@ -36,12 +38,12 @@ pub fn encrypt_message_packed(
     embedding: PlaintextEmbedding,
     secret: &[u32],
     mask: &[u32],
-    errors: &[i32],
+    errors: LweErrorsRef,
     messages: &[u32],
     out: &mut [u32],
 ) -> Result<LweTag, Refusal>
     ensures { EncryptsPackedMessages params embedding secret.now mask.now
-        errors.now messages.now out.old result out.new }
+        (errors_of errors.entry) messages.now out.old result out.new }
 {
     packed_message_refusal(params, secret, mask, errors, messages, out.len())?;
     let moduli = Moduli {

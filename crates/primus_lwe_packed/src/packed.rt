@@ -1,7 +1,9 @@
 // Packed plaintexts and phases. Body i uses the mask rotated right by i, its first i words negated.
 ghost use Rattle.check_order.specs.Answer.{code_of};
 ghost use Rattle.primus_lwe_packed.specs.Answers.{EncryptsPacked, TakesPackedPhases};
+ghost use Rattle.lwe_errors.specs.Errors.{errors_of};
 
+use lwe_errors::LweErrorsRef;
 use check_order::Refusal;
 use lwe_packed_refusals::{packed_phase_refusal, packed_refusal};
 use lwe_parameters::{LweEncryptionParameters, LwePhaseParameters};
@@ -14,11 +16,11 @@ pub fn encrypt_encoded_packed(
     params: LweEncryptionParameters,
     secret: &[u32],
     mask: &[u32],
-    errors: &[i32],
+    errors: LweErrorsRef,
     plaintexts: &[u32],
     out: &mut [u32],
 ) -> Result<LweTag, Refusal>
-    ensures { EncryptsPacked params secret.now mask.now errors.now
+    ensures { EncryptsPacked params secret.now mask.now (errors_of errors.entry)
         plaintexts.now out.old result out.new }
 {
     packed_refusal(params, secret, mask, errors, plaintexts, out.len())?;

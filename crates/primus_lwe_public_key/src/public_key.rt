@@ -1,5 +1,6 @@
 // The public key: n encryptions of 0, one after the other. Encryption adds and subtracts its rows.
 ghost use Rattle.std.specs.Prelude.{◌≡◌, ◌||◌, ◌+◌, length};
+ghost use Rattle.scheme.specs.Lwe.{error_values};
 ghost use Rattle.scheme.specs.Checks.{refusal, length_fails, word_fails, words_fail, errors_fail, coefficients_fail};
 ghost use Rattle.primus_reduce.specs.Ring.{size_of};
 ghost use Rattle.check_order.specs.Answer.{code_of};
@@ -7,7 +8,9 @@ ghost use Rattle.lwe_secret_key.specs.Key.{key_of};
 ghost use Rattle.primus_lwe_public_key.specs.Answers.{generate_rows, GeneratesPublicKey};
 ghost use Rattle.primus_lwe_public_key.specs.Answers.{public_rows, EncryptsPublic};
 ghost use Rattle.primus_lwe_public_key.specs.Answers.{public_message_rows, EncryptsPublicMessage};
+ghost use Rattle.lwe_errors.specs.Errors.{errors_of};
 
+use lwe_errors::LweErrorsRef;
 use check_order::{Refusal, Values};
 use codec_words::{Moduli, PlaintextEmbedding};
 use lwe_secret_key::LweSecretKeyRef;
@@ -24,22 +27,22 @@ fn generate_refusal(
     params: LweEncryptionParameters,
     secret: LweSecretKeyRef,
     masks: &[u32],
-    errors: &[i32],
+    errors: LweErrorsRef,
     room: usize,
 ) -> Result<(), Refusal>
     ensures { code_of result ≡ refusal (generate_rows params (key_of secret.entry)
-        masks.now errors.now room) }
+        masks.now (errors_of errors.entry) room) }
 {
     let dimension = params.dimension;
     let n = dimension.get();
     let mut s = params.sizes();
     s.key = secret.differs(dimension);
     s.output = checks::ciphertexts_differ(room, n, n);
-    s.lent = checks::masks_or_errors_differ(masks.len(), errors.len(), n, n);
+    s.lent = checks::masks_or_errors_differ(masks.len(), errors.count(), n, n);
     s.judge()?;
     let mut v = Values::default();
-    v.word = secret.refused_with(params.modulus, masks);
-    v.error = checks::errors_refused(params.error_limit, errors);
+    v.word = secret.refused_with(params.modulus, masks) | errors.refused(params.modulus);
+    v.error = errors.outside(params.error_limit, params.modulus);
     v.judge()
 }
 
@@ -58,23 +61,23 @@ fn word_refused(modulus: Modulus, key: &[u32], plaintext: u32) -> bool
 }
 
 // 15: of the errors and the coefficients.
-fn lent_refused(error_limit: u32, errors: &[i32], coefficients: &[i32]) -> bool
+fn lent_refused(error_limit: u32, modulus: Modulus, errors: LweErrorsRef, coefficients: &[i32]) -> bool
     ensures { result ≡
-        (coefficients_fail coefficients.now || errors_fail error_limit errors.now) }
+        (coefficients_fail coefficients.now || errors_fail error_limit (error_values (size_of modulus) (errors_of errors.entry))) }
 {
-    checks::coefficients_refused(coefficients) | checks::errors_refused(error_limit, errors)
+    checks::coefficients_refused(coefficients) | errors.outside(error_limit, modulus)
 }
 
 // Stays beside that of a message: in one function a match on what is encrypted would choose the checks twice, of the sizes and of the values.
 fn public_refusal(
     params: LweEncryptionParameters,
     key: &[u32],
-    errors: &[i32],
+    errors: LweErrorsRef,
     coefficients: &[i32],
     plaintext: u32,
     room: usize,
 ) -> Result<(), Refusal>
-    ensures { code_of result ≡ refusal (public_rows params key.now errors.now
+    ensures { code_of result ≡ refusal (public_rows params key.now (errors_of errors.entry)
         coefficients.now plaintext room) }
 {
     let dimension = params.dimension;
@@ -82,11 +85,11 @@ fn public_refusal(
     let mut s = params.sizes();
     s.key = checks::ciphertexts_differ(key.len(), n, n);
     s.output = dimension.ciphertext_differs(room);
-    s.lent = lent_differs(errors.len(), coefficients.len(), dimension);
+    s.lent = lent_differs(errors.count(), coefficients.len(), dimension);
     s.judge()?;
     let mut v = Values::default();
-    v.word = word_refused(params.modulus, key, plaintext);
-    v.error = lent_refused(params.error_limit, errors, coefficients);
+    v.word = word_refused(params.modulus, key, plaintext) | errors.refused(params.modulus);
+    v.error = lent_refused(params.error_limit, params.modulus, errors, coefficients);
     v.judge()
 }
 
@@ -94,12 +97,12 @@ fn public_refusal(
 fn public_message_refusal(
     params: LweParameters,
     key: &[u32],
-    errors: &[i32],
+    errors: LweErrorsRef,
     coefficients: &[i32],
     message: u32,
     room: usize,
 ) -> Result<(), Refusal>
-    ensures { code_of result ≡ refusal (public_message_rows params key.now errors.now
+    ensures { code_of result ≡ refusal (public_message_rows params key.now (errors_of errors.entry)
         coefficients.now message room) }
 {
     let dimension = params.dimension;
@@ -107,11 +110,11 @@ fn public_message_refusal(
     let mut s = params.sizes();
     s.key = checks::ciphertexts_differ(key.len(), n, n);
     s.output = dimension.ciphertext_differs(room);
-    s.lent = lent_differs(errors.len(), coefficients.len(), dimension);
+    s.lent = lent_differs(errors.count(), coefficients.len(), dimension);
     s.judge()?;
     let mut v = Values::default();
-    v.word = checks::words_refused(params.modulus, key);
-    v.error = lent_refused(params.error_limit, errors, coefficients);
+    v.word = checks::words_refused(params.modulus, key) | errors.refused(params.modulus);
+    v.error = lent_refused(params.error_limit, params.modulus, errors, coefficients);
     v.message = checks::message_refused(params.plaintext_modulus, message);
     v.judge()
 }
@@ -123,11 +126,11 @@ impl LwePublicKey {
         params: LweEncryptionParameters,
         secret: LweSecretKeyRef,
         masks: &[u32],
-        errors: &[i32],
+        errors: LweErrorsRef,
         out: &mut [u32],
     ) -> Result<(), Refusal>
         ensures { GeneratesPublicKey params (key_of secret.entry) masks.now
-            errors.now out.old (code_of result) out.new }
+            (errors_of errors.entry) out.old (code_of result) out.new }
     {
         generate_refusal(params, secret, masks, errors, out.len())?;
         let ring = Ring {
@@ -143,12 +146,12 @@ impl LwePublicKey {
     pub fn encrypt_encoded_to(
         params: LweEncryptionParameters,
         key: &[u32],
-        errors: &[i32],
+        errors: LweErrorsRef,
         coefficients: &[i32],
         plaintext: u32,
         out: &mut [u32],
     ) -> Result<LweTag, Refusal>
-        ensures { EncryptsPublic params key.now errors.now coefficients.now
+        ensures { EncryptsPublic params key.now (errors_of errors.entry) coefficients.now
             plaintext out.old result out.new }
     {
         public_refusal(params, key, errors, coefficients, plaintext, out.len())?;
@@ -165,12 +168,12 @@ impl LwePublicKey {
         params: LweParameters,
         embedding: PlaintextEmbedding,
         key: &[u32],
-        errors: &[i32],
+        errors: LweErrorsRef,
         coefficients: &[i32],
         message: u32,
         out: &mut [u32],
     ) -> Result<LweTag, Refusal>
-        ensures { EncryptsPublicMessage params embedding key.now errors.now
+        ensures { EncryptsPublicMessage params embedding key.now (errors_of errors.entry)
             coefficients.now message out.old result out.new }
     {
         public_message_refusal(params, key, errors, coefficients, message, out.len())?;

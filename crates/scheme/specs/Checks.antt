@@ -2,7 +2,7 @@
 use Rattle.std.specs.Prelude.{◌≡◌, Bool, true, false, not, ◌||◌, ◌&&◌, List, [], ◌∷◌, ◌++◌, ℕ, ◌+◌, ◌%◌, ◌^◌, leb, ltb, eqb, ℤ, nat_abs}
 use Rattle.scheme.specs.Numbers.{pick}
 use Rattle.scheme.specs.Modulus.{Modulus, Native, Explicit, is_power, bits}
-use Rattle.scheme.specs.Lwe.{Key, Words, Signed}
+use Rattle.scheme.specs.Lwe.{Key, Words, Signed, Errors, ErrorWords, ErrorNumbers}
 use Rattle.scheme.specs.Basis.{full_count}
 
 -- whether a condition holds, and its number
@@ -130,6 +130,11 @@ signed_fail q xs = magnitudes_fail q xs
 abbrev pub key_fails : ℕ → Key → Bool
 key_fails q (Words s) = words_fail q s
 key_fails q (Signed s) = signed_fail q s
+
+-- "A word not below q gets 14" (T-01): errors that are words; a signed one never does
+abbrev pub error_words_fail : ℕ → Errors → Bool
+error_words_fail q (ErrorWords ws) = words_fail q ws
+error_words_fail q (ErrorNumbers es) = false
 
 -- "15. An error is outside ±E, or a coefficient is none of −1, 0, 1."
 abbrev pub errors_fail : ℕ → List ℤ → Bool

@@ -21,8 +21,9 @@ use Rattle.scheme.proofs.Residue.{cong_refl}
 use Rattle.scheme.proofs.Checks.{length_ok, magnitudes_ok}
 use Rattle.scheme.proofs.Order.{passed, neither}
 use Rattle.scheme.proofs.Switch.{row_below, batch_row}
-use Rattle.scheme.proofs.Phase.{nearest_cong, phase-switched, phase_taken_as}
-use Rattle.scheme.proofs.Bound.{nearest-least, switch_bound_lem}
+use Rattle.scheme.proofs.Nearest.{nearest_cong, nearest-least}
+use Rattle.scheme.proofs.Phase.{phase-switched, phase_taken_as}
+use Rattle.scheme.proofs.Bound.{switch_bound_lem}
 use Rattle.primus_reduce.specs.Ring.{meant}
 use Rattle.primus_decompose.specs.Answers.{basis}
 use Rattle.gadget_constants.proofs.Sound.{sound-basis}

@@ -1,8 +1,9 @@
 -- A ciphertext switched with a generated key.
 use Rattle.std.specs.Prelude.{List, ℕ, ◌≤◌, ℤ, pos, nat_abs, ◌+ℤ◌, get_or}
+use Rattle.scheme.specs.Numbers.{nearest}
 use Rattle.scheme.specs.Basis.{Basis}
 use Rattle.scheme.specs.Lwe.{Key, Words, Signed, secret_of, words, signed, phase_of}
-use Rattle.scheme.specs.Switch.{switch_error, magnitude, switch_bound, nearest}
+use Rattle.scheme.specs.Switch.{switch_error, magnitude, switch_bound}
 use Rattle.theorems.specs.Phases.{HasPhase}
 
 -- "with s taken as c, or as w or w − q, whichever is nearer zero"

@@ -1,7 +1,9 @@
 // A lent secret key: encryption of an encoded plaintext, b = ⟨a, s⟩ + e + p, and the phase, b − ⟨a, s⟩.
 ghost use Rattle.lwe_secret_key.specs.Key.{key_of};
 ghost use Rattle.primus_lwe.specs.Answers.{Encrypts, TakesPhase};
+ghost use Rattle.lwe_errors.specs.Errors.{errors_of};
 
+use lwe_errors::LweErrorsRef;
 use check_order::Refusal;
 use lwe_parameters::{LweEncryptionParameters, LwePhaseParameters};
 use lwe_refusals::{decrypt_refusal, encrypt_refusal};
@@ -15,11 +17,11 @@ pub fn encrypt_encoded_to(
     params: LweEncryptionParameters,
     key: LweSecretKeyRef,
     mask: &[u32],
-    errors: &[i32],
+    errors: LweErrorsRef,
     plaintext: u32,
     out: &mut [u32],
 ) -> Result<LweTag, Refusal>
-    ensures { Encrypts params (key_of key.entry) mask.now errors.now plaintext out.old result out.new }
+    ensures { Encrypts params (key_of key.entry) mask.now (errors_of errors.entry) plaintext out.old result out.new }
 {
     encrypt_refusal(params, key, mask, errors, plaintext, out.len())?;
     let ring = Ring {

@@ -1,7 +1,9 @@
 // Messages below t: encoded and encrypted, and decrypted again.
 ghost use Rattle.lwe_secret_key.specs.Key.{key_of};
 ghost use Rattle.primus_lwe.specs.Answers.{EncryptsMessage, Decrypts};
+ghost use Rattle.lwe_errors.specs.Errors.{errors_of};
 
+use lwe_errors::LweErrorsRef;
 use check_order::Refusal;
 use codec_words::Moduli;
 use lwe_parameters::{LweDecryptionParameters, LweParameters};
@@ -17,11 +19,11 @@ pub fn encrypt_message_to(
     embedding: PlaintextEmbedding,
     key: LweSecretKeyRef,
     mask: &[u32],
-    errors: &[i32],
+    errors: LweErrorsRef,
     message: u32,
     out: &mut [u32],
 ) -> Result<LweTag, Refusal>
-    ensures { EncryptsMessage params embedding (key_of key.entry) mask.now errors.now message out.old result out.new }
+    ensures { EncryptsMessage params embedding (key_of key.entry) mask.now (errors_of errors.entry) message out.old result out.new }
 {
     message_refusal(params, key, mask, errors, message, out.len())?;
     let moduli = Moduli {

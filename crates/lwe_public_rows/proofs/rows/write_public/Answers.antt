@@ -9,6 +9,7 @@ use Rattle.std.proofs.lemmas.Int.{to_z-of_z}
 use Rattle.scheme.specs.Lwe.{signed}
 use Rattle.scheme.proofs.Public.{upto_end}
 use Rattle.primus_reduce.specs.Ring.{size_of}
+use Rattle.lwe_errors.specs.Errors.{errors_in}
 use Rattle.lwe_public_rows.proofs.Laws.{public_start, public_same, public_below, public_next}
 use Rattle.lwe_public_rows.proofs.rows.write_public.Goals as goal
 
@@ -31,5 +32,5 @@ loop-i-preserved c =
 pub returns : goal.returns
 returns c =
     let e : c.loop-i.i ≡ length c.args.coefficients.now = omega arith in
-    upto_end (size_of c.args.ring.modulus) c.args.ring.positive (length c.args.coefficients.now) c.args.key.now (signed c.args.errors.now) (pos c.args.plaintext) (signed c.args.coefficients.now) c.loop-i.out
+    upto_end (size_of c.args.ring.modulus) c.args.ring.positive (length c.args.coefficients.now) c.args.key.now (errors_in c.args.ring.modulus c.args.errors) (pos c.args.plaintext) (signed c.args.coefficients.now) c.loop-i.out
     (rw e at c.loop-i.invariant)

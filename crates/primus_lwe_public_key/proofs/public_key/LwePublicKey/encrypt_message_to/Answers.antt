@@ -3,6 +3,8 @@ use Rattle.scheme.proofs.Checks.{message_ok}
 use Rattle.scheme.proofs.Order.{passed}
 use Rattle.check_order.proofs.Answers.{handed_on}
 use Rattle.lwe_tag.proofs.Writes.{refused, done}
+use Rattle.primus_reduce.specs.Ring.{size_of}
+use Rattle.lwe_errors.specs.Errors.{errors_of}
 use Rattle.primus_lwe.proofs.Laws.{lengths}
 use Rattle.primus_lwe_public_key.proofs.Laws.{lent_ok, public_ok}
 use Rattle.primus_lwe_public_key.proofs.public_key.LwePublicKey.encrypt_message_to.Goals as goal
@@ -16,7 +18,7 @@ encode_as-plaintext-requires c = message_ok _ _ (passed _ (sym c.in_ok-public_me
 pub write_public-requires : goal.write_public-requires
 write_public-requires c =
     let told = c.in_ok-public_message_refusal.ensures in
-    public_ok _ c.args.errors.now c.args.coefficients.now _ _ c.args.params.error_limit (lengths _ told) (passed _ (sym told) 15 tt)
+    public_ok _ (errors_of c.args.errors) c.args.coefficients.now _ _ (size_of c.args.params.modulus) c.args.params.error_limit (lengths _ told) (passed _ (sym told) 15 tt)
 
 pub returns : goal.returns
 returns c =
