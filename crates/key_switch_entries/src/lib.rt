@@ -102,7 +102,7 @@ pub fn write_entries(
     masks: &[u32],
     errors: LweErrorsRef,
 )
-    requires { Generable params masks.now (errors_of errors.entry) (length out.old) }
+    requires { Generable params masks.now (errors_of errors) (length out.old) }
     ensures { out.new ≡ generated_for params (key_of key.entry)
         output_key.now (errors_of errors.entry) masks.now }
 {
