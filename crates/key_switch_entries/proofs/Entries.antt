@@ -13,7 +13,7 @@ use lib.Pow.{pow_pos, pow_mono}
 use borrow.Author.Tests.{eqb-true, lt-ltb}
 use Rattle.scheme.specs.Numbers.{tabulate, rows_of}
 use Rattle.scheme.specs.Basis.{weight}
-use Rattle.scheme.specs.Lwe.{Key, Errors, error_count, encrypted}
+use Rattle.scheme.specs.Lwe.{Key, Errors, error_count, error_of, encrypted}
 use Rattle.scheme.specs.Switch.{generated_entry, generated}
 use Rattle.scheme.specs.Checks.{refusal, length_fails}
 use Rattle.scheme.proofs.Residue.{cong_refl, cong_trans, cong_of_eq, cong_mul}
@@ -32,7 +32,7 @@ use Rattle.gadget_constants.specs.Prepared.{Ready, basis_in}
 use Rattle.lwe_secret_key.specs.Runs.{replaced}
 use Rattle.lwe_secret_key.proofs.Laws.{modulo_stands}
 use Rattle.key_switch_parameters.specs.declared.LweKeySwitchingParameters.{LweKeySwitchingParameters}
-use Rattle.key_switch_parameters.specs.Answers.{n_in, m_in, levels_in}
+use Rattle.key_switch_parameters.specs.Answers.{q_in, n_in, m_in, levels_in}
 use Rattle.key_switch_entries.specs.Answers.{generate_rows, Generable}
 use Rattle.key_switch_parameters.proofs.Passed.{judged}
 
@@ -116,12 +116,12 @@ module _ {P : LweKeySwitchingParameters} {p : PreparedBasis} {masks : List ℕ} 
         masked = g.masked ∙ ap₂ ◌*◌ (sym g.errored) (sym em);
       }
 
-  pub entered_end : (s s' e : ℕ → ℤ) {out₀ out : List ℕ} {k : ℕ} → Entered p m s s' e masks (error_count errors) out₀ out k → error_count errors ≤ k
-      → out ≡ generated (basis P.basis) (n_in P) (m_in P) s s' e masks
+  pub entered_end : (s s' : ℕ → ℤ) {out₀ out : List ℕ} {k : ℕ} → Entered p m s s' (error_of (size_of p.modulus) errors) masks (error_count errors) out₀ out k → error_count errors ≤ k
+      → out ≡ generated (basis P.basis) (n_in P) (m_in P) s s' (error_of (q_in P) errors) masks
   unfolding generated
-  entered_end s s' e f h =
-      filling_end f h ∙ ap (λ k. rows_of k (generated_entry (basis_in p) m s s' e masks)) g.errored
-      ∙ ap₂ (λ x m. rows_of (n_in P * levels_in P) (generated_entry (basis_in x) m s s' e masks)) r.1 em
+  entered_end s s' f h =
+      filling_end f h ∙ ap (λ k. rows_of k (generated_entry (basis_in p) m s s' (error_of (size_of p.modulus) errors) masks)) g.errored
+      ∙ ap₂ (λ x m. rows_of (n_in P * levels_in P) (generated_entry (basis_in x) m s s' (error_of (size_of x.modulus) errors) masks)) r.1 em
 
 -- no number applies
 pub record Unrefused (P : LweKeySwitchingParameters) (E : ℕ) (key : Key) (s' masks : List ℕ) (errors : Errors) (room : ℕ) : Type 0 where

@@ -93,7 +93,6 @@ fn prepared(params: LweKeySwitchingParameters) -> PreparedBasis
 
 // Every entry, for calls that have judged what they are lent: entry k = i × L + j has mask and error k.
 // Stays: keys, masks and errors each alone, as in `generate_refusal`.
-#[tactic(auto, using(crate::proofs::Entries::entered_end))]
 pub fn write_entries(
     out: &mut [u32],
     params: LweKeySwitchingParameters,

@@ -4,9 +4,8 @@ use mathlib.Core.Path.{◌≡◌, refl}
 use mathlib.Core.Bool.{false}
 use mathlib.Core.List.{List, [], ◌++◌}
 use Prim.Native.Nat.{ℕ}
-use lib.IntN.{ℤ}
 use Rattle.scheme.specs.Modulus.{Fits}
-use Rattle.scheme.specs.Lwe.{Key}
+use Rattle.scheme.specs.Lwe.{Key, Errors}
 use Rattle.scheme.specs.Checks.{Check, refusal, applies}
 use Rattle.scheme.specs.Retired.{with_four, refusal_with_four}
 use Rattle.scheme.proofs.Retired as R
@@ -60,7 +59,7 @@ module _ (P : LweKeySwitchingParameters) (f : Word P.basis) where
   pub entry_alike : (len : ℕ) → Alike P.basis (entry_rows P len)
   entry_alike len = alike P.basis f _ refl
 
-  pub generate_alike : (E : ℕ) (key : Key) (s' masks : List ℕ) (errors : List ℤ) (room : ℕ)
+  pub generate_alike : (E : ℕ) (key : Key) (s' masks : List ℕ) (errors : Errors) (room : ℕ)
       → Alike P.basis (generate_rows P E key s' masks errors room)
   generate_alike E key s' masks errors room = alike P.basis f _ refl
 

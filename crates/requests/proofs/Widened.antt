@@ -16,7 +16,7 @@ use lib.ListN.{length}
 use borrow.Author.Tests.{eqb-true, eqb-false}
 use Rattle.std.proofs.Common.{Result, Ok, Err}
 use Rattle.scheme.specs.Numbers.{pick}
-use Rattle.scheme.specs.Lwe.{Key, secret_of, phase_of, add_words}
+use Rattle.scheme.specs.Lwe.{Key, secret_of, phase_of, add_words, Errors}
 use Rattle.scheme.specs.Codec.{decode}
 use Rattle.scheme.specs.Tally.{good}
 use Rattle.scheme.specs.Checks.{Check, applies, refusal, first_in, modulus_fails, plaintext_fails, small_fails, Writes}
@@ -209,23 +209,23 @@ module _ (P : LweParameters) where
   pub parameters_widened : Widened P.plaintext_modulus (parameters_rows P)
   parameters_widened = widened _ _ refl
 
-  pub message_widened : (key : Key) (a : List ℕ) (es : List ℤ) (x room : ℕ) → Widened P.plaintext_modulus (message_rows P key a es x room)
+  pub message_widened : (key : Key) (a : List ℕ) (es : Errors) (x room : ℕ) → Widened P.plaintext_modulus (message_rows P key a es x room)
   message_widened key a es x room = widened _ _ refl
 
-  pub batch_widened : (key : Key) (masks : List ℕ) (es : List ℤ) (xs : List ℕ) (room : ℕ) → Widened P.plaintext_modulus (encrypt_batch_rows P key masks es xs room)
+  pub batch_widened : (key : Key) (masks : List ℕ) (es : Errors) (xs : List ℕ) (room : ℕ) → Widened P.plaintext_modulus (encrypt_batch_rows P key masks es xs room)
   batch_widened key masks es xs room = widened _ _ refl
 
-  pub packed_widened : (s a : List ℕ) (es : List ℤ) (xs : List ℕ) (room : ℕ) → Widened P.plaintext_modulus (packed_message_rows P s a es xs room)
+  pub packed_widened : (s a : List ℕ) (es : Errors) (xs : List ℕ) (room : ℕ) → Widened P.plaintext_modulus (packed_message_rows P s a es xs room)
   packed_widened s a es xs room = widened _ _ refl
 
-  pub public_widened : (key : List ℕ) (es rs : List ℤ) (x room : ℕ) → Widened P.plaintext_modulus (public_message_rows P key es rs x room)
+  pub public_widened : (key : List ℕ) (es : Errors) (rs : List ℤ) (x room : ℕ) → Widened P.plaintext_modulus (public_message_rows P key es rs x room)
   public_widened key es rs x room = widened _ _ refl
 
   pub parameters_alike : let was = answer_before P.plaintext_modulus (parameters_rows P) P in
       Unless P.plaintext_modulus (code_of was) → parameters_answer P ≡ was
   parameters_alike h = answer_same parameters_widened P h
 
-  module _ {g : PlaintextEmbedding} {es : List ℤ} {before after now : List ℕ} {b r : Result LweTag Refusal} where
+  module _ {g : PlaintextEmbedding} {es : Errors} {before after now : List ℕ} {b r : Result LweTag Refusal} where
     pub message_alike : {key : Key} {a : List ℕ} {x : ℕ} (v : EncryptsMessage P g key a es x before b now) → LeftTagged P.plaintext_modulus v.writes r after
         → Unless P.plaintext_modulus (code_of r) → (b ≡ r) × (now ≡ after)
     message_alike {key} {a} {x} v u h = tagged_same (message_widened key a es x (length before)) v.writes u h

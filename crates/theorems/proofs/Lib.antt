@@ -1,4 +1,5 @@
 pub mod Calls
+pub mod Errors
 pub mod Encryption
 pub mod Opening
 pub mod Switching
