@@ -3,6 +3,7 @@
 #![tactic(auto)]
 
 use check_order::Refusal;
+use lwe_errors::LweErrorsRef;
 use primus_encoding::PlaintextEmbedding;
 use primus_lattice::{LweDimension, LweTag};
 use primus_lwe::{LweParameters, LweSecretKeyRef, decrypt_message, encrypt_message_to};
@@ -15,8 +16,8 @@ fn encrypt(params: LweParameters, message: u32, out: &mut [u32]) -> Result<LweTa
     let key = LweSecretKeyRef::Encoded(&SECRET);
     let embedding = PlaintextEmbedding::Unsigned;
     let mask = [1000000007, 123456789];
-    let errors = [-3];
-    encrypt_message_to(params, embedding, key, &mask, &errors, message, out)
+    let errors = LweErrorsRef::Signed(&[-3]);
+    encrypt_message_to(params, embedding, key, &mask, errors, message, out)
 }
 
 // What was written has a tally, E; a refused call gives none.
