@@ -132,7 +132,7 @@ module _ (d : LweDimension) (m : Modulus) (E : ℕ) (key : Key) (masks : List �
       let each = length_ok _ _ (neither (length_fails (length masks) (d.0 * d.0)) (length_fails (error_count es) d.0) (no 12 tt)).0 in
       phase_public_key (size_of m) (positive m (no 2 tt)) d.0 masks (secret_of key) (error_of (size_of m) es) f r p each
 
-  module _ {blank pk : List ℕ} (made-it : GeneratesPublicKey (record { dimension = d; modulus = m; error_limit = E }) key masks es blank 0 pk) (fs rs : List ℤ) where
+  module _ {blank pk : List ℕ} (made-it : GeneratesPublicKey (record { dimension = d; modulus = m; error_limit = E }) key masks es blank 0 pk) (fs : Errors) (rs : List ℤ) where
     -- with the key that the call wrote
     with_key : (p : ℤ) → HasPhase (size_of m) d.0 (public_encrypted (size_of m) d.0 pk (error_of (size_of m) fs) p (signed rs)) (secret_of key)
         (public_phase d.0 p (error_of (size_of m) fs) (secret_of key) (signed rs) (error_of (size_of m) es))

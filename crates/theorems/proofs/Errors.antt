@@ -44,51 +44,50 @@ written_once v w = (v.answered ∙ sym w.answered, v.holds ∙ sym w.holds)
 abbrev pub counted : ℕ → List ℕ → Errors
 counted q ws = ErrorNumbers (error_values q (ErrorWords ws))
 
-module _ (ws : List ℕ) {before after out : List ℕ} where
-  module _ {P : LweEncryptionParameters} (below : words_fail (size_of P.modulus) ws ≡ false) {a b : Result LweTag Refusal} {r s : ℕ} where
-    many : length (error_values (size_of P.modulus) (ErrorWords ws)) ≡ length ws
-    many = length-map ws (nearest (size_of P.modulus))
+many : (q : ℕ) (ws : List ℕ) → length (error_values q (ErrorWords ws)) ≡ length ws
+many q ws = length-map ws (nearest q)
 
+module _ (ws : List ℕ) {before after out : List ℕ} {a b : Result LweTag Refusal} where
+  module _ {P : LweEncryptionParameters} (below : words_fail (size_of P.modulus) ws ≡ false) where
     pub encrypt_counted : {key : Key} {mask : List ℕ} {p : ℕ} → Encrypts P key mask (ErrorWords ws) p before a after
         → Encrypts P key mask (counted (size_of P.modulus) ws) p before b out → (a ≡ b) × (after ≡ out)
-    encrypt_counted c d = tagged_once (rw below at c.writes) (rw many at d.writes)
+    encrypt_counted c d = tagged_once (rw below at c.writes) (rw (many (size_of P.modulus) ws) at d.writes)
 
     pub packed_counted : {secret mask ps : List ℕ} → EncryptsPacked P secret mask (ErrorWords ws) ps before a after
         → EncryptsPacked P secret mask (counted (size_of P.modulus) ws) ps before b out → (a ≡ b) × (after ≡ out)
-    packed_counted c d = tagged_once (rw below at c.writes) (rw many at d.writes)
-
-    pub public_key_counted : {key : Key} {masks : List ℕ} → GeneratesPublicKey P key masks (ErrorWords ws) before r after
-        → GeneratesPublicKey P key masks (counted (size_of P.modulus) ws) before s out → (r ≡ s) × (after ≡ out)
-    public_key_counted c d = written_once (rw below at c.writes) (rw many at d.writes)
+    packed_counted c d = tagged_once (rw below at c.writes) (rw (many (size_of P.modulus) ws) at d.writes)
 
     pub public_counted : {key : List ℕ} {rs : List ℤ} {p : ℕ} → EncryptsPublic P key (ErrorWords ws) rs p before a after
         → EncryptsPublic P key (counted (size_of P.modulus) ws) rs p before b out → (a ≡ b) × (after ≡ out)
-    public_counted c d = tagged_once (rw below at c.writes) (rw many at d.writes)
+    public_counted c d = tagged_once (rw below at c.writes) (rw (many (size_of P.modulus) ws) at d.writes)
 
-  module _ {P : LweParameters} {g : PlaintextEmbedding} (below : words_fail (size_of P.modulus) ws ≡ false) {a b : Result LweTag Refusal} where
-    plenty : length (error_values (size_of P.modulus) (ErrorWords ws)) ≡ length ws
-    plenty = length-map ws (nearest (size_of P.modulus))
-
+  module _ {P : LweParameters} {g : PlaintextEmbedding} (below : words_fail (size_of P.modulus) ws ≡ false) where
     pub message_counted : {key : Key} {mask : List ℕ} {x : ℕ} → EncryptsMessage P g key mask (ErrorWords ws) x before a after
         → EncryptsMessage P g key mask (counted (size_of P.modulus) ws) x before b out → (a ≡ b) × (after ≡ out)
-    message_counted c d = tagged_once (rw below at c.writes) (rw plenty at d.writes)
+    message_counted c d = tagged_once (rw below at c.writes) (rw (many (size_of P.modulus) ws) at d.writes)
 
     pub batch_counted : {key : Key} {masks xs : List ℕ} → EncryptsBatch P g key masks (ErrorWords ws) xs before a after
         → EncryptsBatch P g key masks (counted (size_of P.modulus) ws) xs before b out → (a ≡ b) × (after ≡ out)
-    batch_counted c d = tagged_once (rw below at c.writes) (rw plenty at d.writes)
+    batch_counted c d = tagged_once (rw below at c.writes) (rw (many (size_of P.modulus) ws) at d.writes)
 
     pub packed_message_counted : {secret mask xs : List ℕ} → EncryptsPackedMessages P g secret mask (ErrorWords ws) xs before a after
         → EncryptsPackedMessages P g secret mask (counted (size_of P.modulus) ws) xs before b out → (a ≡ b) × (after ≡ out)
-    packed_message_counted c d = tagged_once (rw below at c.writes) (rw plenty at d.writes)
+    packed_message_counted c d = tagged_once (rw below at c.writes) (rw (many (size_of P.modulus) ws) at d.writes)
 
     pub public_message_counted : {key : List ℕ} {rs : List ℤ} {x : ℕ} → EncryptsPublicMessage P g key (ErrorWords ws) rs x before a after
         → EncryptsPublicMessage P g key (counted (size_of P.modulus) ws) rs x before b out → (a ≡ b) × (after ≡ out)
-    public_message_counted c d = tagged_once (rw below at c.writes) (rw plenty at d.writes)
+    public_message_counted c d = tagged_once (rw below at c.writes) (rw (many (size_of P.modulus) ws) at d.writes)
 
-  module _ {P : LweKeySwitchingParameters} (below : words_fail (q_in P) ws ≡ false) {r s : ℕ} where
-    pub switching_key_counted : {E : ℕ} {key : Key} {s' masks : List ℕ} → Generates P E key s' masks (ErrorWords ws) before r after
-        → Generates P E key s' masks (counted (q_in P) ws) before s out → (r ≡ s) × (after ≡ out)
-    switching_key_counted c d = written_once (rw below at c.writes) (rw (length-map ws (nearest (q_in P))) at d.writes)
+module _ (ws : List ℕ) {before after out : List ℕ} {r s : ℕ} where
+  pub public_key_counted : {P : LweEncryptionParameters} {key : Key} {masks : List ℕ} → words_fail (size_of P.modulus) ws ≡ false
+      → GeneratesPublicKey P key masks (ErrorWords ws) before r after
+      → GeneratesPublicKey P key masks (counted (size_of P.modulus) ws) before s out → (r ≡ s) × (after ≡ out)
+  public_key_counted {P} below c d = written_once (rw below at c.writes) (rw (many (size_of P.modulus) ws) at d.writes)
+
+  pub switching_key_counted : {P : LweKeySwitchingParameters} {E : ℕ} {key : Key} {s' masks : List ℕ} → words_fail (q_in P) ws ≡ false
+      → Generates P E key s' masks (ErrorWords ws) before r after
+      → Generates P E key s' masks (counted (q_in P) ws) before s out → (r ≡ s) × (after ≡ out)
+  switching_key_counted {P} below c d = written_once (rw below at c.writes) (rw (many (q_in P) ws) at d.writes)
 
 pub native_words : (ws : List ℕ) → ((i : ℕ) → get_or ws i 0 < 2 ^ 32) → error_words_fail (2 ^ 32) (ErrorWords ws) ≡ false
 native_words ws h = sym (words_below (2 ^ 32) ws h)

@@ -6,7 +6,7 @@
 --     opens_batch        and of the batch, decrypted as one; opens_batch_marked
 -- Assumes nothing.
 use mathlib.Core.Path.{◌≡◌, refl, sym, ap, ◌∙◌}
-use mathlib.Core.Bool.{true, false, not, ◌||◌}
+use mathlib.Core.Bool.{Bool, true, false, not, ◌||◌}
 use mathlib.Core.List.{List}
 use Prim.Native.Nat.{ℕ, ◌+◌, ◌*◌, ◌/◌, ◌%◌, ◌<◌, ◌≤◌}
 use native.Mathlib.Nat.{mul-mod_left, mul-div_cancel}
@@ -76,6 +76,10 @@ module _ (q n : ℕ) (a : List ℕ) (s : ℕ → ℤ) (e p : ℤ) (h : 0 < q) (l
 phase-word : (q n : ℕ) (x : List ℕ) (s : ℕ → ℤ) (z : ℤ) → 0 < q → HasPhase q n x s z → phase_of q n x s ≡ residue z q
 phase-word q n x s z h c = sym (word-residue q (phase_of q n x s) (phase-below q n x s _ h refl)) ∙ residue_cong h c
 
+-- of 14 over errors, key and masks: the key and the masks
+others : (es key masks : Bool) → ((masks || key) || es) ≡ false → (key ≡ false) × (masks ≡ false)
+others es key masks e = neither key masks (neither es (masks || key) e).1
+
 module _ (P : LweEncryptionParameters) (key : Key) (a : List ℕ) (es : Errors) (p : ℕ) where
   abbrev ciphertext : List ℕ
   ciphertext = encrypted (size_of P.modulus) P.dimension.0 a (secret_of key) (error_of (size_of P.modulus) es 0) (pos p)
@@ -107,7 +111,7 @@ module _ (P : LweParameters) (g : PlaintextEmbedding) (key : Key) (a : List ℕ)
   decrypt_accepted room e =
       let q = size_of P.modulus in
       let no = passed (message_rows P key a es x room) e in
-      let (keyed, masked) = neither (key_fails q key) (words_fail q a) (neither (error_words_fail q es) (words_fail q a || key_fails q key) (no 14 tt)).1 in
+      let (keyed, masked) = others (error_words_fail q es) (key_fails q key) (words_fail q a) (no 14 tt) in
       let f = fresh_fits q P.dimension.0 a (secret_of key) (error_of (size_of P.modulus) es 0) (encoded g P x) (positive P.modulus (no 2 tt)) (mask_ok (length a) (error_count es) P.dimension.0 (lengths (message_rows P key a es x room) (sym e))) masked in
       rw (no 2 tt, no 6 tt, no 7 tt, no 8 tt, no 9 tt, f.0, keyed, f.1)
 
@@ -155,7 +159,7 @@ module _ (P : LweParameters) (g : PlaintextEmbedding) (key : Key) (masks : List 
       let q = size_of P.modulus in
       let n = P.dimension.0 in
       let (positive, l) = batch_masks P g key masks es xs room e in
-      let fourteen = neither (key_fails q key) (words_fail q masks) (neither (error_words_fail q es) (words_fail q masks || key_fails q key) (passed (encrypt_batch_rows P key masks es xs room) e 14 tt)).1 in (
+      let fourteen = others (error_words_fail q es) (key_fails q key) (words_fail q masks) (passed (encrypt_batch_rows P key masks es xs room) e 14 tt) in (
         rows-length _ (n + 1) (length xs) (λ i h. encrypted-row q n (length xs) i masks (secret_of key) (error_of (size_of P.modulus) es i) (encodings g P xs i) l h),
         rows-below q (length xs) _ (λ i h. encrypted-below q n positive _ (secret_of key) (error_of (size_of P.modulus) es i) (encodings g P xs i) (part_below q n masks i (words_ok q masks fourteen.1))),
       )
@@ -183,7 +187,7 @@ module _ (P : LweParameters) (g : PlaintextEmbedding) (key : Key) (masks : List 
       let (len, below) = rows_fit room e in
       let ten : length_fails (length (row_of n ciphertexts i)) (n + 1) ≡ false = length_fit _ _ (part_length (n + 1) (length xs) ciphertexts i len k) in
       let words : words_fail q (row_of n ciphertexts i) ≡ false = words_fit q _ (part_below q (n + 1) ciphertexts i below) in
-      rw (no 2 tt, no 6 tt, no 7 tt, no 8 tt, no 9 tt, ten, (neither (key_fails q key) (words_fail q masks) (neither (error_words_fail q es) (words_fail q masks || key_fails q key) (no 14 tt)).1).0, words)
+      rw (no 2 tt, no 6 tt, no 7 tt, no 8 tt, no 9 tt, ten, (others (error_words_fail q es) (key_fails q key) (words_fail q masks) (no 14 tt)).0, words)
 
   pub opens_row : 2 * P.plaintext_modulus * P.error_limit + P.plaintext_modulus < size_of P.modulus
       → {before after : List ℕ} {tag : LweTag} {answer : Result ℕ Refusal} → EncryptsBatch P g key masks es xs before (Ok tag) after → (i : ℕ) → i < length xs
@@ -216,7 +220,7 @@ module _ (P : LweParameters) (g : PlaintextEmbedding) (key : Key) (masks : List 
       let (len, below) = rows_fit room e in
       let (count, ten) = count-is (length ciphertexts) P.dimension.0 (length xs) len in
       let eleven : length_fails (length xs) (length ciphertexts / (P.dimension.0 + 1)) ≡ false = length_fit _ _ (sym count) in
-      rw (no 2 tt, no 6 tt, no 7 tt, no 8 tt, no 9 tt, ten, eleven, (neither (key_fails q key) (words_fail q masks) (no 14 tt)).0, words_fit q ciphertexts below)
+      rw (no 2 tt, no 6 tt, no 7 tt, no 8 tt, no 9 tt, ten, eleven, (others (error_words_fail q es) (key_fails q key) (words_fail q masks) (no 14 tt)).0, words_fit q ciphertexts below)
 
   pub opens_batch : 2 * P.plaintext_modulus * P.error_limit + P.plaintext_modulus < size_of P.modulus
       → {before after blank out : List ℕ} {tag : LweTag} {r : ℕ} → EncryptsBatch P g key masks es xs before (Ok tag) after → length blank ≡ length xs
