@@ -50,9 +50,6 @@ pub(crate) enum Kind {
     Entry,
 }
 
-// How many numbers there are.
-pub(crate) const KINDS: usize = 32;
-
 impl TryFrom<u32> for Kind {
     type Error = u32;
 

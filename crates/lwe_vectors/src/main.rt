@@ -10,7 +10,7 @@ mod said;
 mod single;
 mod switch;
 
-use kind::{KINDS, Kind};
+use kind::Kind;
 use record::{Head, Record};
 use said::Said;
 use std::alloc::Global;
@@ -55,7 +55,7 @@ fn call(kind: Kind, r: &Record, out: &mut [u32]) -> Said {
 fn agrees(record: &Record) -> io::Result<bool> {
     let head = record.head;
     let mut out = record.before.clone()?;
-    let said = match Kind::try_from(head.kind) {
+    let said = match Kind::try_from(head.call()) {
         Ok(kind) => call(kind, record, &mut out),
         Err(_) => switch::unnamed(head),
     };
@@ -94,8 +94,8 @@ fn turn(alloc: Global, input: &mut impl Read) -> io::Result<Outcome> {
     }
 }
 
-// How many records of each kind were equal, by its number.
-type Counts = [u32; KINDS + 1];
+// How many records of each kind were equal, by its number, a byte; one with words for errors has a number of its own.
+type Counts = [u32; 256];
 
 // Compares records up to the first that differs; the answer is whether all are equal.
 fn all(
@@ -136,12 +136,14 @@ fn file(
 
 fn main(rt: HostRuntime) -> io::Result<()> {
     let alloc = rt.alloc();
-    let mut counts = [0; KINDS + 1];
+    let mut counts = [0; 256];
     let encryption = file(&rt, alloc, "lwe.bin", &mut counts)?;
     let switching = file(&rt, alloc, "switch.bin", &mut counts)?;
     let rust = file(&rt, alloc, "oracle.bin", &mut counts)?;
-    for (kind, count) in counts.iter().enumerate().skip(1) {
-        let _ = println!(rt; "kind {kind}: {count}");
+    for (kind, count) in counts.iter().enumerate() {
+        if *count != 0 {
+            let _ = println!(rt; "kind {kind}: {count}");
+        }
     }
     if encryption && switching && rust {
         let _ = println!(rt; "all equal");

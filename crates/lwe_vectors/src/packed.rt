@@ -9,15 +9,17 @@ use primus_lattice::LweTag;
 // words and the output, is longer than what it saves.
 pub(crate) fn encrypt_encoded(r: &Record, out: &mut [u32]) -> Said {
     let params = r.head.encryption_parameters();
-    let answer = primus_lwe_packed::encrypt_encoded_packed(params, &r.a, &r.b, &r.e, &r.c, out);
+    let errors = r.e.lent();
+    let answer = primus_lwe_packed::encrypt_encoded_packed(params, &r.a, &r.b, errors, &r.c, out);
     said::written(answer, LweTag::none())
 }
 
 pub(crate) fn encrypt_messages(r: &Record, out: &mut [u32]) -> Said {
     let params = r.head.parameters();
     let embedding = r.head.embedding;
+    let errors = r.e.lent();
     let answer = primus_lwe_packed::encrypt_message_packed(
-        params, embedding, &r.a, &r.b, &r.e, &r.c, out,
+        params, embedding, &r.a, &r.b, errors, &r.c, out,
     );
     said::written(answer, LweTag::none())
 }
@@ -25,8 +27,9 @@ pub(crate) fn encrypt_messages(r: &Record, out: &mut [u32]) -> Said {
 pub(crate) fn encrypt_batch(r: &Record, out: &mut [u32]) -> Said {
     let params = r.head.parameters();
     let embedding = r.head.embedding;
+    let errors = r.e.lent();
     let answer = primus_lwe_batch::encrypt_message_batch_to(
-        params, embedding, &r.a, &r.b, &r.e, &r.c, out,
+        params, embedding, &r.a, &r.b, errors, &r.c, out,
     );
     said::written(answer, said::fresh(r.head))
 }

@@ -1,4 +1,5 @@
 // A record: the head, and the words that follow it.
+use lwe_errors::LweErrorsRef;
 use lwe_parameters::{
     LweDecryptionParameters, LweEncryptionParameters, LweParameters, LwePhaseParameters,
 };
@@ -18,10 +19,13 @@ const NUMBERS: usize = 2048;
 
 const ALL: usize = 16384;
 
+// What the number of a kind has more where the errors are words.
+const WORDED: u32 = 128;
+
 #[derive(Clone, Copy)]
 pub(crate) struct Head {
     // The number of its kind, 0 at the end of the file.
-    // Stays: a number: it is what is counted and printed, and one that names no kind has a call too.
+    // Stays: a number: it is what is counted and printed, for each form of the errors, and one that names no kind has a call too.
     pub(crate) kind: u32,
     pub(crate) modulus: Modulus,
     pub(crate) n: usize,
@@ -50,6 +54,32 @@ struct Lengths {
     out: usize,
 }
 
+// Errors of either form.
+#[derive(Drop)]
+pub(crate) enum Errors {
+    Encoded(Vec<u32>),
+    Signed(Vec<i32>),
+}
+
+impl Errors {
+    // Those of a record, in the form that the number of its kind says.
+    fn read(alloc: Global, input: &mut impl Read, head: Head) -> io::Result<Errors> {
+        let count = head.lengths.e;
+        if head.kind < WORDED {
+            Ok(Errors::Signed(numbers(alloc, input, count)?))
+        } else {
+            Ok(Errors::Encoded(words(alloc, input, count)?))
+        }
+    }
+
+    pub(crate) fn lent(&self) -> LweErrorsRef<'_> {
+        match self {
+            Errors::Encoded(words) => LweErrorsRef::Encoded(words),
+            Errors::Signed(numbers) => LweErrorsRef::Signed(numbers),
+        }
+    }
+}
+
 // What a call is lent, and its buffer before and after it.
 #[derive(Drop)]
 pub(crate) struct Record {
@@ -58,7 +88,7 @@ pub(crate) struct Record {
     pub(crate) b: Vec<u32>,
     pub(crate) c: Vec<u32>,
     pub(crate) d: Vec<i32>,
-    pub(crate) e: Vec<i32>,
+    pub(crate) e: Errors,
     pub(crate) before: Vec<u32>,
     pub(crate) after: Vec<u32>,
 }
@@ -92,6 +122,11 @@ impl Head {
                 out: length(bytes, 42),
             },
         }
+    }
+
+    // The number of its call, the same for either form of the errors.
+    pub(crate) fn call(self) -> u32 {
+        self.kind % WORDED
     }
 
     // The parameters, which no try_new has judged: each call judges them by itself.
@@ -159,7 +194,7 @@ impl Record {
         let b = words(alloc, input, lengths.b)?;
         let c = words(alloc, input, lengths.c)?;
         let d = numbers(alloc, input, lengths.d)?;
-        let e = numbers(alloc, input, lengths.e)?;
+        let e = Errors::read(alloc, input, head)?;
         let before = words(alloc, input, lengths.out)?;
         let after = match head.refusal {
             0 => words(alloc, input, lengths.out)?,

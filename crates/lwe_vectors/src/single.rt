@@ -11,7 +11,7 @@ pub(crate) fn encrypt_encoded(r: &Record, form: Form, out: &mut [u32]) -> Said {
     let h = r.head;
     let key = form.key(r);
     let params = h.encryption_parameters();
-    let answer = primus_lwe::encrypt_encoded_to(params, key, &r.b, &r.e, h.value, out);
+    let answer = primus_lwe::encrypt_encoded_to(params, key, &r.b, r.e.lent(), h.value, out);
     said::written(answer, said::fresh(h))
 }
 
@@ -19,7 +19,9 @@ pub(crate) fn encrypt_message(r: &Record, form: Form, out: &mut [u32]) -> Said {
     let h = r.head;
     let key = form.key(r);
     let params = h.parameters();
-    let answer = primus_lwe::encrypt_message_to(params, h.embedding, key, &r.b, &r.e, h.value, out);
+    let embedding = h.embedding;
+    let errors = r.e.lent();
+    let answer = primus_lwe::encrypt_message_to(params, embedding, key, &r.b, errors, h.value, out);
     said::written(answer, said::fresh(h))
 }
 
@@ -34,13 +36,13 @@ pub(crate) fn decrypt_message(r: &Record, form: Form) -> Said {
 // A public key from a secret: masks b, errors e.
 pub(crate) fn public_key(r: &Record, form: Form, out: &mut [u32]) -> Said {
     let params = r.head.encryption_parameters();
-    said::done(LwePublicKey::generate(params, form.key(r), &r.b, &r.e, out))
+    said::done(LwePublicKey::generate(params, form.key(r), &r.b, r.e.lent(), out))
 }
 
 pub(crate) fn public_encoded(r: &Record, out: &mut [u32]) -> Said {
     let h = r.head;
     let params = h.encryption_parameters();
-    let answer = LwePublicKey::encrypt_encoded_to(params, &r.a, &r.e, &r.d, h.value, out);
+    let answer = LwePublicKey::encrypt_encoded_to(params, &r.a, r.e.lent(), &r.d, h.value, out);
     said::written(answer, LweTag::none())
 }
 
@@ -48,8 +50,9 @@ pub(crate) fn public_message(r: &Record, out: &mut [u32]) -> Said {
     let h = r.head;
     let params = h.parameters();
     let embedding = h.embedding;
+    let errors = r.e.lent();
     let answer = LwePublicKey::encrypt_message_to(
-        params, embedding, &r.a, &r.e, &r.d, h.value, out,
+        params, embedding, &r.a, errors, &r.d, h.value, out,
     );
     said::written(answer, LweTag::none())
 }

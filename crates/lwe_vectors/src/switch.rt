@@ -61,7 +61,7 @@ fn generated(r: &Record, form: Form, out: &mut [u32]) -> Result<(), Refusal> {
         secret,
         &r.c,
         &r.b,
-        &r.e,
+        r.e.lent(),
         out,
     )
 }
