@@ -1,4 +1,4 @@
-"""Test vectors for LWE ciphertexts, computed from document 01, with any t below q (T-10).
+"""Test vectors for LWE ciphertexts, computed from document 01, with any t below q (T-10) and errors of either form (T-01).
 
     python3 scripts/lwe_vectors.py          write the file
     python3 scripts/lwe_vectors.py --check  compare with the stored file
@@ -6,9 +6,9 @@
 Writes crates/lwe_vectors/data/lwe.bin: records of one call each, without padding, numbers
 little-endian. A record is a head of 60 bytes and the words that its lengths announce:
 
-    kind u8 (0 ends the file), modulus kind u8 (1 explicit), modulus u32, n u64, t u32, E u32,
+    kind u8 (0 ends the file; 128 more where errors are words), modulus kind u8 (1 explicit), modulus u32, n u64, t u32, E u32,
     embedding u8 (1 Centered), refusal u8, value u32, answer u32,
-    lengths u16 of a, b, c (words), d, e (signed numbers) and of the buffer, m u64, base log u32, levels u32;
+    lengths u16 of a, b, c (words), d, e (signed numbers; e words where errors are) and of the buffer, m u64, base log u32, levels u32;
     a, b, c, d, e, the buffer before the call, and, where it is not refused, the buffer after it
 
 The class of each call says what it takes from value, a .. e and the buffer. The answer is what an accepted
@@ -21,16 +21,18 @@ How document 01 is read, where it leaves a choice:
 - A dimension is judged by its kind, before the call that is to take it. So no record has 2 and 6 both.
 - A plaintext is a word (14); a message has 16 only, also where it is not below q.
 - A given tally above 2^32 is refused by 17 even where the other ciphertext has none.
+- An error word not below q has 14, and what it counts as has 15 too where it lies outside ±E: then 14 is the answer.
 """
 
 import struct
 import sys
+from copy import copy
 from dataclasses import dataclass, field, replace
 
 sys.dont_write_bytecode = True  # importing must leave no file in the repository
 
 from codec_vectors import Codec
-from scheme01 import Draw, write_or_check
+from scheme01 import Draw, nearest, write_or_check
 
 HEAD = struct.Struct("<BBIQIIBBII6HQII")
 
@@ -42,6 +44,8 @@ WORD_MAX = 2**32 - 1
 LIMIT = 1048576
 # A plaintext modulus for money in cents (T-10).
 CENTS = 1000003
+# What the kind of a call has more where its errors are words.
+WORDED = 128
 # The words that the program has room for.
 ROOMS = [8192, 8192, 8192, 2048, 2048, 8192]
 
@@ -269,6 +273,18 @@ class Call:
     def applying(self, k):
         return {number for number, applies in self.rows(k) if applies}
 
+    def errors(self, k):
+        """The signed values of the errors lent."""
+        return k.e
+
+    def lent(self, p, count):
+        """Errors to lend."""
+        return p.errors(count)
+
+    def errors_outside(self, k):
+        """Errors to lend that lie outside ±E."""
+        return [c for c in (k.E + 1, -k.E - 1, LOWEST, HIGHEST) if LOWEST <= c <= HIGHEST and abs(c) > k.E]
+
     def operands(self, p, **more):
         """The parameters that the call takes, with its own operands."""
         k = p.base(**more)
@@ -303,8 +319,7 @@ class Call:
                     yield from words_not_below_q(k, name, draw)
         elif number == 15:
             for name in self.fields[15]:
-                limit = k.E + 1 if name == "e" else 2
-                bad = [w for w in (limit, -limit, LOWEST, HIGHEST) if LOWEST <= w <= HIGHEST and abs(w) >= limit]
+                bad = self.errors_outside(k) if name == "e" else [2, -2, LOWEST, HIGHEST]
                 yield from replaced(k, name, bad, draw)
         elif number == 16:
             bad = [w for w in (k.t, k.t + 1, q, WORD_MAX) if k.t <= w <= WORD_MAX]
@@ -313,6 +328,35 @@ class Call:
                     yield from (replace(k, value=w) for w in bad)
                 else:
                     yield from replaced(k, name, bad, draw)
+
+
+class ErrorWords:
+    """A call whose errors e are words below q (T-01): each counts as the number that is nearest."""
+
+    def errors(self, k):
+        return [nearest(k.q, w) for w in k.e]
+
+    def own_rows(self, k):
+        yield from super().own_rows(k)
+        yield 14, words_fail(k.q, k.e)
+
+    def lent(self, p, count):
+        """Words of numbers within ±E. At E = q/2 that is every word, and no word stands for -q/2."""
+        low, high = -min(p.E, (p.q - 1) // 2), min(p.E, p.q // 2)
+        return [p.draw.choose([low, high, p.between(low, high)]) % p.q for _ in range(count)]
+
+    def errors_outside(self, k):
+        """Next to E on either side, and about q/2."""
+        near = sorted({k.E + 1, k.q // 2, k.q // 2 + 1, k.q - k.E - 1})
+        return [w for w in near if 0 <= w < k.q and abs(nearest(k.q, w)) > k.E]
+
+
+def worded(call):
+    """The call with words for its errors."""
+    signed = type(call)
+    fields = {**signed.fields, 14: (*signed.fields[14], "e")}
+    members = {"kind": signed.kind + WORDED, "name": f"{signed.name}, errors as words", "fields": fields}
+    return type(f"{signed.__name__}Words", (ErrorWords, signed), members)()
 
 
 class Dimension(Call):
@@ -511,14 +555,15 @@ class EncryptEncoded(Secret):
         yield 11, len(k.out) != k.n + 1
         yield 12, len(k.b) != k.n or len(k.e) != 1
         yield 14, words_fail(k.q, k.b) or k.value >= k.q
-        yield 15, outside(k.E + 1, k.e)
+        yield 15, outside(k.E + 1, self.errors(k))
 
     def make(self, p):
-        return self.operands(p, **self.key(p), b=p.words(p.n), e=p.errors(1), value=p.word(), out=p.room(p.n + 1))
+        return self.operands(p, **self.key(p), b=p.words(p.n), e=self.lent(p, 1), value=p.word(), out=p.room(p.n + 1))
 
     def result(self, k):
-        x = encrypted(k.q, k.b, self.secret(k), k.e[0], k.value)
-        assert phase_of(k.q, x, self.secret(k)) == (k.e[0] + k.value) % k.q
+        (error,) = self.errors(k)
+        x = encrypted(k.q, k.b, self.secret(k), error, k.value)
+        assert phase_of(k.q, x, self.secret(k)) == (error + k.value) % k.q
         return 0, x
 
 
@@ -565,15 +610,15 @@ class EncryptMessage(Secret):
         yield 11, len(k.out) != k.n + 1
         yield 12, len(k.b) != k.n or len(k.e) != 1
         yield 14, words_fail(k.q, k.b)
-        yield 15, outside(k.E + 1, k.e)
+        yield 15, outside(k.E + 1, self.errors(k))
         yield 16, k.value >= k.t
 
     def make(self, p):
-        return self.operands(p, **self.key(p), b=p.words(p.n), e=p.errors(1), value=p.message(), out=p.room(p.n + 1))
+        return self.operands(p, **self.key(p), b=p.words(p.n), e=self.lent(p, 1), value=p.message(), out=p.room(p.n + 1))
 
     def result(self, k):
         codec, s = Codec(k.modulus, k.t), self.secret(k)
-        x = encrypted(k.q, k.b, s, k.e[0], codec.embed(k.value, k.centered))
+        x = encrypted(k.q, k.b, s, *self.errors(k), codec.embed(k.value, k.centered))
         if 2 * k.t * k.E + k.t < k.q:
             assert codec.decode(phase_of(k.q, x, s)) == k.value
         return 0, x
@@ -627,7 +672,7 @@ class PackEncoded(Secret):
         yield 11, len(k.out) != k.n + count
         yield 12, len(k.b) != k.n or len(k.e) != count
         yield 14, words_fail(k.q, k.b)
-        yield 15, outside(k.E + 1, k.e)
+        yield 15, outside(k.E + 1, self.errors(k))
         yield from self.plain_rows(k)
 
     def plain_rows(self, k):
@@ -639,7 +684,7 @@ class PackEncoded(Secret):
     def make(self, p, count=None):
         count = p.draw.choose([p.n, p.draw.below(p.n + 1)]) if count is None else count
         return self.operands(
-            p, a=p.words(p.n), b=p.words(p.n), c=self.plain(p, count), e=p.errors(count), out=p.room(p.n + count)
+            p, a=p.words(p.n), b=p.words(p.n), c=self.plain(p, count), e=self.lent(p, count), out=p.room(p.n + count)
         )
 
     def faults(self, k, number, draw):
@@ -652,9 +697,9 @@ class PackEncoded(Secret):
         return k.c
 
     def result(self, k):
-        plain = self.words(k)
-        x = packed(k.q, k.n, k.b, k.a, k.e, plain)
-        assert packed_phases(k.q, k.n, x, k.a) == [(e + p) % k.q for e, p in zip(k.e, plain)]
+        plain, errors = self.words(k), self.errors(k)
+        x = packed(k.q, k.n, k.b, k.a, errors, plain)
+        assert packed_phases(k.q, k.n, x, k.a) == [(e + p) % k.q for e, p in zip(errors, plain)]
         return 0, x
 
 
@@ -732,7 +777,7 @@ class BatchMessages(Secret):
         yield 11, len(k.out) != count * (k.n + 1)
         yield 12, len(k.b) != count * k.n or len(k.e) != count
         yield 14, words_fail(k.q, k.b)
-        yield 15, outside(k.E + 1, k.e)
+        yield 15, outside(k.E + 1, self.errors(k))
         yield 16, words_fail(k.t, k.c)
 
     def make(self, p, count=None):
@@ -742,14 +787,14 @@ class BatchMessages(Secret):
             a=p.words(p.n),
             b=p.words(count * p.n),
             c=[p.message() for _ in range(count)],
-            e=p.errors(count),
+            e=self.lent(p, count),
             out=p.room(count * (p.n + 1)),
         )
 
     def result(self, k):
         codec = Codec(k.modulus, k.t)
         plain = [codec.embed(m, k.centered) for m in k.c]
-        return 0, encrypted_rows(k.q, k.n, k.b, k.a, k.e, plain)
+        return 0, encrypted_rows(k.q, k.n, k.b, k.a, self.errors(k), plain)
 
 
 class BatchPhases(Secret):
@@ -802,14 +847,14 @@ class Generate(Secret):
         yield 11, len(k.out) != k.n * (k.n + 1)
         yield 12, len(k.b) != k.n * k.n or len(k.e) != k.n
         yield 14, words_fail(k.q, k.b)
-        yield 15, outside(k.E + 1, k.e)
+        yield 15, outside(k.E + 1, self.errors(k))
 
     def make(self, p):
         n = p.n
-        return self.operands(p, **self.key(p), b=p.words(n * n), e=p.errors(n), out=p.room(n * (n + 1)))
+        return self.operands(p, **self.key(p), b=p.words(n * n), e=self.lent(p, n), out=p.room(n * (n + 1)))
 
     def result(self, k):
-        return 0, encrypted_rows(k.q, k.n, k.b, self.secret(k), k.e, [0] * k.n)
+        return 0, encrypted_rows(k.q, k.n, k.b, self.secret(k), self.errors(k), [0] * k.n)
 
 
 class GenerateSigned(Generate):
@@ -830,7 +875,7 @@ class PublicEncoded(Call):
         yield 11, len(k.out) != k.n + 1
         yield 12, len(k.e) != k.n + 1 or len(k.d) != k.n
         yield 14, words_fail(k.q, k.a)
-        yield 15, outside(k.E + 1, k.e) or outside(2, k.d)
+        yield 15, outside(k.E + 1, self.errors(k)) or outside(2, k.d)
         yield from self.plain_rows(k)
 
     def plain_rows(self, k):
@@ -843,20 +888,20 @@ class PublicEncoded(Call):
         """The key is made from a secret, or is any words."""
         n = p.n
         key = p.words(n * (n + 1))
-        if p.q and p.draw.below(2):
+        if p.q and p.draw.below(2) and n:
             s, errors, f, r, plain = p.words(n), p.errors(n), p.errors(n + 1), p.coefficients(n), p.word()
             key = encrypted_rows(p.q, n, p.words(n * n), s, errors, [0] * n)
             law = plain + f[n] - inner(f, s) + inner(r, errors)
             assert phase_of(p.q, public_encrypted(p.q, n, key, f, r, plain), s) == law % p.q
         return self.operands(
-            p, a=key, e=p.errors(n + 1), d=p.coefficients(n), value=self.plain(p), out=p.room(n + 1)
+            p, a=key, e=self.lent(p, n + 1), d=p.coefficients(n), value=self.plain(p), out=p.room(n + 1)
         )
 
     def word(self, k):
         return k.value
 
     def result(self, k):
-        return 0, public_encrypted(k.q, k.n, k.a, k.e, k.d, self.word(k))
+        return 0, public_encrypted(k.q, k.n, k.a, self.errors(k), k.d, self.word(k))
 
 
 class PublicMessage(PublicEncoded):
@@ -881,7 +926,7 @@ class PublicMessage(PublicEncoded):
 
 def record(call, k):
     applying = call.applying(k)
-    assert call.kind > 26 or not {2, 6} <= applying
+    assert call.kind % WORDED > 26 or not {2, 6} <= applying
     refusal = min(applying, default=0)
     answer, after = (0, k.out) if refusal else call.result(k)
     if not refusal and call.kind > 5:
@@ -906,7 +951,7 @@ def written(kind, k, refusal, answer, after):
 
 def most(call):
     """Public keys have n rows: smaller dimensions keep the file small."""
-    return 5 if call.kind >= 23 else 8
+    return 5 if call.kind % WORDED >= 23 else 8
 
 
 def accepted(call):
@@ -1043,6 +1088,68 @@ def pairs(call):
                 yield k
 
 
+# Moduli with an E: the word of q/2 and the next within ±E, just outside, and far outside.
+HALVES = [
+    (4, 0), (4, 1), (4, 2), (4, 3), (5, 1), (5, 2), (5, 4), (16, 3), (16, 7), (16, 8), (16, 15), (17, 0), (17, 7), (17, 8), (17, 16),
+    (65536, 32767), (65536, 32768), (2 * LIMIT, LIMIT), (2 * LIMIT + 1, LIMIT), (2 * LIMIT + 2, LIMIT), (2 * LIMIT + 3, LIMIT),
+    (2**31 - 1, LIMIT), (2**31, 3), (2**31 + 1, LIMIT), (2**32 - 5, LIMIT), (2**32 - 1, 1), (None, 0), (None, 1), (None, LIMIT),
+]
+
+
+def about_half(modulus, E):
+    """Error words about 0, E, q/2 and q."""
+    q = Case(modulus, 1).q
+    words = {0, E, E + 1, (q - 1) // 2, q // 2, q // 2 + 1, q - E - 1, q - E, q - 1, q, q + E}
+    return sorted(w for w in words if 0 <= w <= WORD_MAX)
+
+
+def with_word(k, w, draw):
+    """The case with w for one of its errors."""
+    place = draw.below(len(k.e))
+    return replace(k, e=k.e[:place] + [w] + k.e[place + 1 :])
+
+
+def lending(call, draw, modulus, n, E):
+    """A case that lends errors, if only one."""
+    while True:
+        k = call.make(Pick(draw, modulus, n, E=E))
+        if k.e:
+            return k
+
+
+def halves(call):
+    """Each of those words in a call: it is refused where the word counts as more than E, or is not below q."""
+    draw = Draw(800 + call.kind)
+    for modulus, E in HALVES:
+        for w in about_half(modulus, E):
+            yield with_word(lending(call, draw, modulus, 1 + draw.below(2), E), w, draw)
+
+
+def narrowed(call, words, errors):
+    """The call with faults of 14 and of 15 in these operands alone."""
+    only = copy(call)
+    only.fields = {**call.fields, 14: words, 15: errors}
+    return only
+
+
+def error_pairs(call):
+    """14 and 15 by an error word, with every other number; then 14 before 15 over the whole call, whichever operand has it."""
+    draw = Draw(1000 + call.kind)
+    only = narrowed(call, ("e",), ("e",))
+    for number in (14, 15):
+        for other in call.numbers:
+            if other != number:
+                yield refused(only, (number, other), draw)
+    for name in call.fields[14]:
+        yield refused(narrowed(call, (name,), ("e",)), (14, 15), draw)
+    if "d" in call.fields[15]:
+        yield refused(narrowed(call, ("e",), ("d",)), (14, 15), draw)
+    for modulus, E in ((17, 3), (65536, 5), (2**31 - 1, LIMIT)):
+        k = lending(call, draw, modulus, 3, E)
+        if len(k.e) > 1:
+            yield from (replace(k, e=[x, *k.e[1:-1], y]) for x, y in ((E + 1, modulus), (modulus, E + 1)))
+
+
 def long_cases():
     """Dimension 2,048, and larger public keys."""
     draw = Draw(600)
@@ -1126,6 +1233,9 @@ CALLS = [
 ]
 
 
+WORDED_CALLS = [worded(call) for call in CALLS if 15 in call.fields]
+
+
 def cases(call):
     if isinstance(call, Dimension):
         yield from dimensions()
@@ -1143,10 +1253,15 @@ def cases(call):
     yield from counts(call)
     yield from alone(call)
     yield from pairs(call)
+    if call in WORDED_CALLS:
+        yield from halves(call)
+        yield from error_pairs(call)
 
 
 def check_definitions():
     """A few values by hand, and the law of a sample."""
+    for q, numbers in ((16, [0, 1, 8, -7, -1]), (17, [0, 1, 8, -8, -1]), (2**32, [0, 1, 2**31, 1 - 2**31, -1])):
+        assert [nearest(q, w) for w in (0, 1, q // 2, q // 2 + 1, q - 1)] == numbers
     assert encrypted(17, [3], [1], 0, 2) == [3, 5]
     assert phase_of(17, [9, 12], [1]) == 3
     assert packed(17, 2, [3, 5], [1, 2], [0, 0], [0, 0]) == [3, 5, 13, 1]
@@ -1162,7 +1277,7 @@ def main():
     check_definitions()
     longest = list(long_cases())
     records = []
-    for call in CALLS:
+    for call in CALLS + WORDED_CALLS:
         made = [record(call, k) for k in (*cases(call), *(k for kind, k in longest if kind is type(call)))]
         size, refusals = sum(map(len, made)), sum(r[HEAD_REFUSAL] != 0 for r in made)
         print(f"kind {call.kind} ({call.name}): {len(made)}, refused {refusals}, {size} bytes")

@@ -1,9 +1,9 @@
-"""Basis, reading and digits of document 01, over whole numbers.
+"""Basis, reading and digits of document 01, and what an error word counts as (T-01), over whole numbers.
 
-Written from the formulas of document 01 alone. The proved code is compared
+Written from the formulas of documents 01 and 02 alone. The proved code is compared
 with what these definitions give, so they share nothing with it.
 
-Imported by digits_vectors.py and readings_runs.py.
+Imported by the other scripts that make vectors.
 """
 
 import sys
@@ -29,6 +29,11 @@ def value_bits(q):
     """Trailing zeros of a power of two, else the bit width."""
     width = q.bit_length()
     return width - 1 if q == 2 ** (width - 1) else width
+
+
+def nearest(q, w):
+    """T-01: a word w counts as w when w ≤ q/2, otherwise as w − q; compared as whole numbers, so that q/2 is not cut down."""
+    return w if 2 * w <= q else w - q
 
 
 class Basis:

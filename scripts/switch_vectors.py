@@ -1,4 +1,4 @@
-"""Test vectors for key switching, computed from document 01.
+"""Test vectors for key switching, computed from document 01, with errors of either form (T-01).
 
     python3 scripts/switch_vectors.py          write the file
     python3 scripts/switch_vectors.py --check  compare with the stored file
@@ -17,9 +17,9 @@ from dataclasses import dataclass, replace
 sys.dont_write_bytecode = True  # importing must leave no file in the repository
 
 import lwe_vectors
-from lwe_vectors import HEAD, HIGHEST, LIMIT, LOWEST, WORD_MAX, encrypted, other_lengths, outside, phase_of, record, replaced
-from lwe_vectors import rows_of, words_fail, words_not_below_q, written
-from scheme01 import Basis, Draw, value_bits, write_or_check
+from lwe_vectors import HALVES, HEAD, HIGHEST, LIMIT, LOWEST, WORD_MAX, about_half, encrypted, narrowed, other_lengths, outside
+from lwe_vectors import phase_of, record, replaced, rows_of, with_word, worded, words_fail, words_not_below_q, written
+from scheme01 import Basis, Draw, nearest, value_bits, write_or_check
 
 OPEN = WORD_MAX
 MISSING = WORD_MAX
@@ -60,10 +60,6 @@ def switched(basis, n, m, key, x):
         for j, digit in enumerate(basis.parts(x[i]).digits):
             out = [w - digit * y for w, y in zip(out, entries[i * basis.L + j])]
     return [w % basis.q for w in out]
-
-
-def nearest(q, w):
-    return w if 2 * w <= q else w - q
 
 
 def obeys(basis, n, m, s, t, errors, E, key, x):
@@ -107,6 +103,18 @@ class Call:
     def own_rows(self, k):
         return ()
 
+    def errors(self, k):
+        """The signed values of the errors lent."""
+        return k.e
+
+    def lent(self, p, count):
+        """Errors to lend."""
+        return p.errors(count)
+
+    def errors_outside(self, k):
+        """Errors to lend that lie outside ±E."""
+        return [c for c in (k.E + 1, -k.E - 1, LOWEST) if abs(c) > k.E and LOWEST <= c <= HIGHEST]
+
     def applying(self, k):
         return {number for number, applies in self.rows(k) if applies}
 
@@ -132,8 +140,7 @@ class Call:
             for name in self.fields[14]:
                 yield from words_not_below_q(k, name, draw)
         elif number == 15:
-            bad = [w for w in (k.E + 1, -k.E - 1, LOWEST) if abs(w) > k.E and LOWEST <= w <= HIGHEST]
-            yield from replaced(k, "e", bad, draw)
+            yield from replaced(k, "e", self.errors_outside(k), draw)
 
 
 class Parameters(Call):
@@ -165,22 +172,22 @@ class Generate(Call):
         yield 11, len(k.out) != count * (k.m + 1)
         yield 12, len(k.b) != count * k.m or len(k.e) != count
         yield 14, words_fail(k.q, k.a + k.b + k.c) or outside(k.q, k.d)
-        yield 15, outside(k.E + 1, k.e)
+        yield 15, outside(k.E + 1, self.errors(k))
 
     def make(self, p):
         count = p.n * p.L
         key = {"d": p.numbers(p.n)} if self.signed else {"a": p.words(p.n)}
         return p.base(
-            E=p.E, **key, c=p.words(p.m), b=p.words(count * p.m), e=p.errors(count), out=p.room(count * (p.m + 1))
+            E=p.E, **key, c=p.words(p.m), b=p.words(count * p.m), e=self.lent(p, count), out=p.room(count * (p.m + 1))
         )
 
     def result(self, k):
-        basis, s = k.basis(), self.secret(k)
-        key = generated(basis, k.n, s, k.c, k.e, k.b)
+        basis, s, errors = k.basis(), self.secret(k), self.errors(k)
+        key = generated(basis, k.n, s, k.c, errors, k.b)
         draw = Draw(k.n * 97 + k.m)
         for _ in range(4):
             x = [draw.below(k.q) for _ in range(k.n + 1)]
-            obeys(basis, k.n, k.m, s, k.c, k.e, k.E, key, x)
+            obeys(basis, k.n, k.m, s, k.c, errors, k.E, key, x)
         return 0, key
 
 
@@ -268,6 +275,7 @@ class Entry(Call):
 
 
 CALLS = [Parameters(), Generate(), GenerateSigned(), Switch(), Batch()]
+WORDED_CALLS = [worded(Generate()), worded(GenerateSigned())]
 
 
 class Pick:
@@ -385,10 +393,39 @@ def entry_records(draw):
         yield from (Entry().record(k) for k in refused_cases(draw, Entry(), basis))
 
 
+def worded_records(draw):
+    """Generation with words for its errors; then each word about 0, E, q/2 and q, one in a key."""
+    for basis in BASES:
+        for call in WORDED_CALLS:
+            yield from (record(call, call.make(Pick(draw, *basis, n, m))) for n, m in ((1, 1), (2, 3)))
+    for modulus, E in HALVES:
+        for w in about_half(modulus, E):
+            p, call = Pick(draw, modulus, 2, 1, draw.choose([1, 3]), 1), draw.choose(WORDED_CALLS)
+            p.E = E
+            yield record(call, with_word(call.make(p), w, draw))
+
+
+def worded_refusals(draw):
+    """Every refusal again; 14 and 15 by an error word with every other number; and 14 by each operand before 15."""
+    for call in WORDED_CALLS:
+        yield from (record(call, k) for k in refused_cases(draw, call, (17, 2, OPEN)))
+        for basis in ((None, 4, OPEN), (17, 2, OPEN), (65536, 4, 2), (2**31 - 1, 30, OPEN)):
+            only = narrowed(call, ("e",), ("e",))
+            yield from (record(call, k) for k in refused_cases(draw, only, basis))
+        for name in call.fields[14]:
+            only, p = narrowed(call, (name,), ("e",)), Pick(draw, 65536, 4, OPEN, 2, 1)
+            p.E = draw.below(100)
+            for k in only.faults(call.make(p), 14, draw):
+                yield record(call, draw.choose([x for x in only.faults(k, 15, draw) if {14, 15} <= call.applying(x)]))
+
+
 def files():
     draw = Draw(20261116)
     out = list(stated_records())
     for records in (single_records, batch_records, refused_records, largest_records, entry_records):
+        out.extend(records(draw))
+    draw = Draw(20261127)
+    for records in (worded_records, worded_refusals):
         out.extend(records(draw))
     return {"crates/lwe_vectors/data/switch.bin": b"".join(out) + bytes(HEAD.size)}
 
