@@ -12,10 +12,10 @@ ghost use Rattle.key_switch_parameters.specs.Answers.{q_in, n_in, m_in, levels_i
 ghost use Rattle.key_switch_entries.specs.Answers.{generate_rows, generated_for, Generable};
 ghost use Rattle.lwe_errors.specs.Errors.{errors_of};
 
-use lwe_errors::LweErrorsRef;
 use check_order::{Refusal, Values};
 use gadget_constants::PreparedBasis;
 use key_switch_parameters::LweKeySwitchingParameters;
+use lwe_errors::LweErrorsRef;
 use lwe_secret_key::LweSecretKeyRef;
 use primus_reduce::Ring;
 

@@ -6,10 +6,10 @@ ghost use Rattle.lwe_secret_key.specs.Key.{key_of};
 ghost use Rattle.key_switch_key.specs.Answers.{entry_rows, entry_answer, entry_part, Generates};
 ghost use Rattle.lwe_errors.specs.Errors.{errors_of};
 
-use lwe_errors::LweErrorsRef;
 use check_order::Refusal;
 use key_switch_entries::{generate_refusal, write_entries};
 use key_switch_parameters::LweKeySwitchingParameters;
+use lwe_errors::LweErrorsRef;
 use lwe_secret_key::LweSecretKeyRef;
 
 // Its words are lent. Stays: no field for them: `generate` writes what it is lent, and C lends them to each call.

@@ -7,8 +7,8 @@ ghost use Rattle.lwe_parameters.specs.Answers.{judged_rows};
 ghost use Rattle.lwe_batch_refusals.specs.Rows.{encrypt_batch_rows, batch_rows};
 ghost use Rattle.lwe_errors.specs.Errors.{errors_of};
 
-use lwe_errors::LweErrorsRef;
 use check_order::{Refusal, Values};
+use lwe_errors::LweErrorsRef;
 use lwe_parameters::{LweParameters, LwePhaseParameters};
 
 // What refuses encryptions of messages. Stays beside that of one message, whose lengths are a row's: as a batch of one it would ask for

@@ -5,9 +5,9 @@ ghost use Rattle.check_order.specs.Answer.{code_of};
 ghost use Rattle.lwe_packed_refusals.specs.Rows.{packed_message_rows};
 ghost use Rattle.lwe_errors.specs.Errors.{errors_of};
 
-use lwe_errors::LweErrorsRef;
 use crate::packed;
 use check_order::{Refusal, Values};
+use lwe_errors::LweErrorsRef;
 use lwe_parameters::LweParameters;
 
 // What refuses packed messages. Stays beside that of plaintexts, as said there.

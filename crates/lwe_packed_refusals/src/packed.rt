@@ -6,8 +6,8 @@ ghost use Rattle.check_order.specs.Answer.{code_of};
 ghost use Rattle.lwe_packed_refusals.specs.Rows.{packed_rows};
 ghost use Rattle.lwe_errors.specs.Errors.{errors_of};
 
-use lwe_errors::LweErrorsRef;
 use check_order::{Refusal, Values};
+use lwe_errors::LweErrorsRef;
 use lwe_parameters::LweEncryptionParameters;
 use primus_lattice::LweDimension;
 use primus_reduce::Modulus;
@@ -58,7 +58,8 @@ pub fn packed_refusal(
     s.lent = checks::lengths_differ(mask.len(), dimension.get(), errors.count(), count);
     s.judge()?;
     let mut v = Values::default();
-    v.word = words_refused(params.modulus, secret, mask, plaintexts) | errors.refused(params.modulus);
+    v.word = words_refused(params.modulus, secret, mask, plaintexts)
+        | errors.refused(params.modulus);
     v.error = errors.outside(params.error_limit, params.modulus);
     v.judge()
 }

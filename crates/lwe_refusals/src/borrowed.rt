@@ -8,8 +8,8 @@ ghost use Rattle.lwe_refusals.specs.Rows.{encrypt_rows, ciphertext_rows};
 ghost use Rattle.lwe_parameters.specs.Answers.{judged_rows};
 ghost use Rattle.lwe_errors.specs.Errors.{errors_of};
 
-use lwe_errors::LweErrorsRef;
 use check_order::{Refusal, Values};
+use lwe_errors::LweErrorsRef;
 use lwe_parameters::{LweEncryptionParameters, LwePhaseParameters};
 use lwe_secret_key::LweSecretKeyRef;
 use primus_reduce::Modulus;

@@ -6,8 +6,8 @@ ghost use Rattle.lwe_secret_key.specs.Key.{key_of};
 ghost use Rattle.lwe_refusals.specs.Rows.{message_rows};
 ghost use Rattle.lwe_errors.specs.Errors.{errors_of};
 
-use lwe_errors::LweErrorsRef;
 use check_order::{Refusal, Values};
+use lwe_errors::LweErrorsRef;
 use lwe_parameters::LweParameters;
 use lwe_secret_key::LweSecretKeyRef;
 

@@ -7,8 +7,8 @@ ghost use Rattle.lwe_secret_key.specs.Key.{key_of};
 ghost use Rattle.lwe_secret_key.specs.Runs.{replaced};
 ghost use Rattle.lwe_errors.specs.Errors.{errors_in};
 
-use lwe_errors::LweErrorsRef;
 use crate::key::LweSecretKeyRef;
+use lwe_errors::LweErrorsRef;
 use primus_reduce::{Factor, Ring};
 
 fn write(out: &mut [u32], mask: &[u32], body: u32)

@@ -4,9 +4,9 @@
 
 mod secret_key;
 
+pub use lwe_errors::LweErrorsRef;
 pub use lwe_parameters::{
     LweDecryptionParameters, LweEncryptionParameters, LweParameters, LwePhaseParameters,
 };
-pub use lwe_errors::LweErrorsRef;
 pub use lwe_secret_key::LweSecretKeyRef;
 pub use secret_key::{decrypt_message, decrypt_phase, encrypt_encoded_to, encrypt_message_to};

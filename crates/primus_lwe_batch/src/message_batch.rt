@@ -10,10 +10,10 @@ ghost use Rattle.lwe_secret_key.specs.Runs.{Run};
 ghost use Rattle.primus_lwe_batch.specs.Answers.{EncryptsBatch, batch_phase, TakesPhases, DecryptsBatch};
 ghost use Rattle.lwe_errors.specs.Errors.{errors_of, errors_in};
 
-use lwe_errors::LweErrorsRef;
 use check_order::Refusal;
 use codec_words::{Moduli, PlaintextEmbedding};
 use lwe_batch_refusals::{decrypt_refusal, encrypt_refusal};
+use lwe_errors::LweErrorsRef;
 use lwe_parameters::{LweDecryptionParameters, LweParameters, LwePhaseParameters};
 use lwe_secret_key::LweSecretKeyRef;
 use lwe_tag::LweTag;

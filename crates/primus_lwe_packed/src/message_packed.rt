@@ -7,9 +7,9 @@ ghost use Rattle.check_order.specs.Answer.{code_of};
 ghost use Rattle.primus_lwe_packed.specs.Answers.{EncryptsPackedMessages, DecryptsPacked};
 ghost use Rattle.lwe_errors.specs.Errors.{errors_of};
 
-use lwe_errors::LweErrorsRef;
 use check_order::Refusal;
 use codec_words::{Moduli, PlaintextEmbedding};
+use lwe_errors::LweErrorsRef;
 use lwe_packed_refusals::{packed_decrypt_refusal, packed_message_refusal};
 use lwe_parameters::{LweDecryptionParameters, LweParameters};
 use lwe_tag::LweTag;

@@ -3,8 +3,8 @@ ghost use Rattle.check_order.specs.Answer.{code_of};
 ghost use Rattle.primus_lwe_packed.specs.Answers.{EncryptsPacked, TakesPackedPhases};
 ghost use Rattle.lwe_errors.specs.Errors.{errors_of};
 
-use lwe_errors::LweErrorsRef;
 use check_order::Refusal;
+use lwe_errors::LweErrorsRef;
 use lwe_packed_refusals::{packed_phase_refusal, packed_refusal};
 use lwe_parameters::{LweEncryptionParameters, LwePhaseParameters};
 use lwe_tag::LweTag;

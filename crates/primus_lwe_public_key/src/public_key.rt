@@ -10,9 +10,9 @@ ghost use Rattle.primus_lwe_public_key.specs.Answers.{public_rows, EncryptsPubli
 ghost use Rattle.primus_lwe_public_key.specs.Answers.{public_message_rows, EncryptsPublicMessage};
 ghost use Rattle.lwe_errors.specs.Errors.{errors_of};
 
-use lwe_errors::LweErrorsRef;
 use check_order::{Refusal, Values};
 use codec_words::{Moduli, PlaintextEmbedding};
+use lwe_errors::LweErrorsRef;
 use lwe_secret_key::LweSecretKeyRef;
 use lwe_tag::LweTag;
 use primus_lattice::LweDimension;
@@ -61,7 +61,12 @@ fn word_refused(modulus: Modulus, key: &[u32], plaintext: u32) -> bool
 }
 
 // 15: of the errors and the coefficients.
-fn lent_refused(error_limit: u32, modulus: Modulus, errors: LweErrorsRef, coefficients: &[i32]) -> bool
+fn lent_refused(
+    error_limit: u32,
+    modulus: Modulus,
+    errors: LweErrorsRef,
+    coefficients: &[i32],
+) -> bool
     ensures { result ≡
         (coefficients_fail coefficients.now || errors_fail error_limit (error_values (size_of modulus) (errors_of errors.entry))) }
 {

@@ -3,8 +3,8 @@ ghost use Rattle.lwe_secret_key.specs.Key.{key_of};
 ghost use Rattle.primus_lwe.specs.Answers.{Encrypts, TakesPhase};
 ghost use Rattle.lwe_errors.specs.Errors.{errors_of};
 
-use lwe_errors::LweErrorsRef;
 use check_order::Refusal;
+use lwe_errors::LweErrorsRef;
 use lwe_parameters::{LweEncryptionParameters, LwePhaseParameters};
 use lwe_refusals::{decrypt_refusal, encrypt_refusal};
 use lwe_secret_key::LweSecretKeyRef;

@@ -3,9 +3,9 @@ ghost use Rattle.lwe_secret_key.specs.Key.{key_of};
 ghost use Rattle.primus_lwe.specs.Answers.{EncryptsMessage, Decrypts};
 ghost use Rattle.lwe_errors.specs.Errors.{errors_of};
 
-use lwe_errors::LweErrorsRef;
 use check_order::Refusal;
 use codec_words::Moduli;
+use lwe_errors::LweErrorsRef;
 use lwe_parameters::{LweDecryptionParameters, LweParameters};
 use lwe_refusals::{decrypt_refusal, message_refusal};
 use lwe_secret_key::LweSecretKeyRef;
