@@ -1,7 +1,8 @@
 -- What each call on a batch is judged by.
 use Rattle.std.specs.Prelude.{List, [], ◌∷◌, ◌++◌, ℕ, ◌+◌, ◌*◌, ◌/◌, length}
 use Rattle.scheme.specs.Lwe.{Key, key_length, Errors, error_count, error_values}
-use Rattle.scheme.specs.Checks.{Check, row, length_fails, batch_fails, words_fail, key_fails, error_words_fail, errors_fail, messages_fail}
+use Rattle.scheme.specs.Checks.{Check, row, length_fails, batch_fails, words_fail, key_fails}
+use Rattle.scheme.specs.Checks.{error_words_fail, errors_fail, messages_fail}
 use Rattle.primus_reduce.specs.Ring.{size_of}
 use Rattle.primus_reduce.specs.declared.modulus.Modulus.{Modulus}
 use Rattle.lwe_parameters.specs.declared.parameter.LwePhaseParameters.{LwePhaseParameters}

@@ -1,7 +1,8 @@
 -- What each call on a packed ciphertext is judged by.
 use Rattle.std.specs.Prelude.{List, [], ◌∷◌, ◌++◌, ℕ, ◌+◌, ◌-◌, Option, length}
 use Rattle.scheme.specs.Lwe.{Errors, error_count, error_values}
-use Rattle.scheme.specs.Checks.{Check, row, length_fails, count_fails, packed_fails, words_fail, error_words_fail, errors_fail, messages_fail}
+use Rattle.scheme.specs.Checks.{Check, row, length_fails, count_fails, packed_fails, words_fail}
+use Rattle.scheme.specs.Checks.{error_words_fail, errors_fail, messages_fail}
 use Rattle.primus_reduce.specs.Ring.{size_of}
 use Rattle.lwe_parameters.specs.declared.parameter.LweEncryptionParameters.{LweEncryptionParameters}
 use Rattle.lwe_parameters.specs.declared.parameter.LweParameters.{LweParameters}

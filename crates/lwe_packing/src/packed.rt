@@ -49,8 +49,8 @@ impl<'a> Rotation<'a> {
     #[tactic(auto, using(crate::proofs::Laws::body_is))]
     fn body(self, errors: LweErrorsRef, i: usize, plaintext: u32) -> u32
         requires { i < length self.mask.now }
-        ensures { result ≡ residue (rotated_by self.entry i +ℤ errors_in self.entry.ring.modulus errors.entry i +ℤ pos plaintext)
-            (size_of self.entry.ring.modulus) }
+        ensures { let m = self.entry.ring.modulus in
+            result ≡ residue (rotated_by self.entry i +ℤ errors_in m errors.entry i +ℤ pos plaintext) (size_of m) }
     {
         let product = self.product(i);
         let error = errors.residue(i, self.ring.modulus);

@@ -1,7 +1,8 @@
 -- What a call on one ciphertext is judged by.
 use Rattle.std.specs.Prelude.{List, [], ◌∷◌, ◌++◌, ℕ, ◌+◌, length}
 use Rattle.scheme.specs.Lwe.{Key, key_length, Errors, error_count, error_values}
-use Rattle.scheme.specs.Checks.{Check, row, length_fails, word_fails, words_fail, key_fails, error_words_fail, errors_fail, message_fails}
+use Rattle.scheme.specs.Checks.{Check, row, length_fails, word_fails, words_fail, key_fails}
+use Rattle.scheme.specs.Checks.{error_words_fail, errors_fail, message_fails}
 use Rattle.primus_reduce.specs.Ring.{size_of}
 use Rattle.primus_reduce.specs.declared.modulus.Modulus.{Modulus}
 use Rattle.lwe_parameters.specs.declared.parameter.LweEncryptionParameters.{LweEncryptionParameters}

@@ -32,7 +32,8 @@ pub fn encrypt_refusal(
     plaintext: u32,
     room: usize,
 ) -> Result<(), Refusal>
-    ensures { code_of result ≡ refusal (encrypt_rows params (key_of key.entry) mask.now (errors_of errors.entry) plaintext room) }
+    ensures { code_of result ≡ refusal (encrypt_rows params (key_of key.entry) mask.now
+        (errors_of errors.entry) plaintext room) }
 {
     let mut s = params.sizes();
     s.key = key.differs(params.dimension);

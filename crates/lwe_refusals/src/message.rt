@@ -20,7 +20,8 @@ pub fn message_refusal(
     message: u32,
     room: usize,
 ) -> Result<(), Refusal>
-    ensures { code_of result ≡ refusal (message_rows params (key_of key.entry) mask.now (errors_of errors.entry) message room) }
+    ensures { code_of result ≡ refusal (message_rows params (key_of key.entry) mask.now
+        (errors_of errors.entry) message room) }
 {
     let mut s = params.sizes();
     s.key = key.differs(params.dimension);

@@ -44,7 +44,8 @@ pub record EncryptsMessage (P : LweParameters) (g : PlaintextEmbedding) (key : K
     (before : List ℕ) (given : Result LweTag Refusal) (after : List ℕ) : Type 0 where
   pub writes :
       WritesTagged (message_rows P key a es x (length before)) (tag_from (Fresh P.error_limit))
-      (encrypted (size_of P.modulus) P.dimension.0 a (secret_of key) (error_of (size_of P.modulus) es 0) (encoded g P x))
+      (encrypted (size_of P.modulus) P.dimension.0 a (secret_of key) (error_of (size_of P.modulus) es 0)
+      (encoded g P x))
       before given after
 
 -- the message is the decoded phase

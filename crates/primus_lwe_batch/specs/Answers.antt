@@ -21,8 +21,8 @@ pub record EncryptsBatch (P : LweParameters) (g : PlaintextEmbedding) (key : Key
     (xs before : List ℕ) (given : Result LweTag Refusal) (after : List ℕ) : Type 0 where
   pub writes :
       WritesTagged (encrypt_batch_rows P key masks es xs (length before)) (tag_from (Fresh P.error_limit))
-      (encrypted_rows (size_of P.modulus) P.dimension.0 (length xs) masks (secret_of key) (error_of (size_of P.modulus) es)
-      (encodings g P xs))
+      (encrypted_rows (size_of P.modulus) P.dimension.0 (length xs) masks (secret_of key)
+      (error_of (size_of P.modulus) es) (encodings g P xs))
       before given after
 
 -- the phase of ciphertext i

@@ -32,7 +32,8 @@ pub record EncryptsPackedMessages (P : LweParameters) (g : PlaintextEmbedding) (
     (xs before : List ℕ) (answer : Result LweTag Refusal) (after : List ℕ) : Type 0 where
   pub writes :
       WritesTagged (packed_message_rows P s a es xs (length before)) (tag_from Packed)
-      (packed (size_of P.modulus) P.dimension.0 (length xs) a (words s) (error_of (size_of P.modulus) es) (encodings g P xs))
+      (packed (size_of P.modulus) P.dimension.0 (length xs) a (words s) (error_of (size_of P.modulus) es)
+      (encodings g P xs))
       before answer after
 
 -- ---- decryption

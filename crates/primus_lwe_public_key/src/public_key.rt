@@ -68,7 +68,8 @@ fn lent_refused(
     coefficients: &[i32],
 ) -> bool
     ensures { result ≡
-        (coefficients_fail coefficients.now || errors_fail error_limit (error_values (size_of modulus) (errors_of errors.entry))) }
+        (coefficients_fail coefficients.now
+        || errors_fail error_limit (error_values (size_of modulus) (errors_of errors.entry))) }
 {
     checks::coefficients_refused(coefficients) | errors.outside(error_limit, modulus)
 }

@@ -1,5 +1,5 @@
--- Lent errors that are words below q (T-01). A call with words gives the answer and the tag, and leaves the words, of the call with the signed numbers that
--- they count as, refused or not; so every law of a phase, an opening and a bound, which speaks of these numbers, holds for both.
+-- Lent errors that are words below q (T-01). A call with words gives the answer and the tag, and leaves the words, of the call with the signed
+-- numbers that they count as, refused or not; so every law of a phase, an opening and a bound, which speaks of these numbers, holds for both.
 --     encrypt_counted, message_counted, batch_counted, packed_counted, packed_message_counted     under a secret key
 --     public_key_counted, public_counted, public_message_counted                                  a public key, and under it
 --     switching_key_counted                                                                       a switching key

@@ -21,7 +21,8 @@ pub record Switched (b : Basis) (n m : ℕ) (key : Key) (s' : List ℕ) (errors 
   -- the same with s so taken,
   pub nearer :
       HasPhase b.modulus m y (words s')
-      (pos (phase_of b.modulus n x (secret_of key)) +ℤ switch_error b n (taken_as b.modulus key) (error_of b.modulus errors) x)
+      (pos (phase_of b.modulus n x (secret_of key))
+      +ℤ switch_error b n (taken_as b.modulus key) (error_of b.modulus errors) x)
   -- and the error is "at most H × Σ|sᵢ| + n × L × (B/2) × E in absolute value"
   pub bounded :
       nat_abs (switch_error b n (taken_as b.modulus key) (error_of b.modulus errors) x)

@@ -23,7 +23,8 @@ pub fn encrypt_message_to(
     message: u32,
     out: &mut [u32],
 ) -> Result<LweTag, Refusal>
-    ensures { EncryptsMessage params embedding (key_of key.entry) mask.now (errors_of errors.entry) message out.old result out.new }
+    ensures { EncryptsMessage params embedding (key_of key.entry) mask.now
+        (errors_of errors.entry) message out.old result out.new }
 {
     message_refusal(params, key, mask, errors, message, out.len())?;
     let moduli = Moduli {
