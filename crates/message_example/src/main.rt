@@ -3,10 +3,11 @@
 #![tactic(auto)]
 
 use check_order::Refusal;
-use lwe_errors::LweErrorsRef;
 use primus_encoding::PlaintextEmbedding;
 use primus_lattice::{LweDimension, LweTag};
-use primus_lwe::{LweParameters, LweSecretKeyRef, decrypt_message, encrypt_message_to};
+use primus_lwe::{
+    LweErrorsRef, LweParameters, LweSecretKeyRef, decrypt_message, encrypt_message_to,
+};
 use primus_reduce::Modulus;
 use std::io;
 
