@@ -32,6 +32,7 @@ fn signed_value(word: u32, modulus: Modulus) -> i64
 }
 
 // Whether what some word counts as has a magnitude that is not below the limit; no early exit, as in checks.
+// Stays: a loop beside that of checks, which needs no modulus: one for both would be handed what makes a number of an element.
 fn any_outside(words: &[u32], limit: u64, modulus: Modulus) -> bool
     ensures { result ≡ magnitudes_fail limit (map (nearest (size_of modulus)) words.now) }
 {
