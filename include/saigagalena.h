@@ -7,6 +7,7 @@
  *   n, m         dimensions, from 1 to 2048; a ciphertext has n mask words, then the body
  *   t            the plaintext modulus, from 2 to q - 1
  *   error_limit  E: lent errors lie within -E .. E
+ *   errors       signed numbers; the calls whose names end in _error_words, which stand last, take words
  *   base_log     log2 of the base B of the digits, from 2 to 31
  *   levels       L; 0 stands for as many as fit
  *   centered     0 encodes a message m as m; any other number as m - t from ceil(t/2) on
@@ -29,7 +30,7 @@
 #include <stdint.h>
 
 /* The release that this header is of; saigagalena_version() says which one the library is of. */
-#define SAIGAGALENA_VERSION 4
+#define SAIGAGALENA_VERSION 5
 
 /* An answer of 64 bits above this is a refusal: this plus the refusal number. */
 #define SAIGAGALENA_REFUSED UINT64_C(0x100000000)
@@ -295,6 +296,78 @@ saigagalena_answer saigagalena_key_switch(uint32_t modulus, uint32_t base_log, u
 saigagalena_answer saigagalena_key_switch_batch(uint32_t modulus, uint32_t base_log, uint32_t levels, size_t n, size_t m,
                                                 const uint32_t *key, size_t key_len, const uint32_t *input, size_t input_len,
                                                 uint32_t *out, size_t out_len);
+
+/* ---- errors as words: as a sampler modulo q gives them */
+
+/*
+ * Each of these is the call of its name without _error_words, with the same operands, result, tag and refusals, but its errors are
+ * words. A word w counts as w where 2 w <= q, else as w - q; q/2 itself counts as q/2. A word that is not below q is refused by 14
+ * (under 2^32 there is none), one that counts as a number outside -error_limit .. error_limit by 15; over a whole call 14 comes
+ * before 15. `_signed` speaks of the key, here too.
+ */
+saigagalena_answer saigagalena_encrypt_encoded_error_words(uint32_t modulus, size_t n, uint32_t error_limit,
+                                                           const uint32_t *secret, size_t secret_len, const uint32_t *mask,
+                                                           size_t mask_len, const uint32_t *errors, size_t errors_len,
+                                                           uint32_t plaintext, uint32_t *out, size_t out_len);
+saigagalena_answer saigagalena_encrypt_encoded_signed_error_words(uint32_t modulus, size_t n, uint32_t error_limit,
+                                                                  const int32_t *secret, size_t secret_len,
+                                                                  const uint32_t *mask, size_t mask_len, const uint32_t *errors,
+                                                                  size_t errors_len, uint32_t plaintext, uint32_t *out,
+                                                                  size_t out_len);
+saigagalena_answer saigagalena_encrypt_message_error_words(uint32_t modulus, size_t n, uint32_t t, uint32_t error_limit,
+                                                           uint32_t centered, const uint32_t *secret, size_t secret_len,
+                                                           const uint32_t *mask, size_t mask_len, const uint32_t *errors,
+                                                           size_t errors_len, uint32_t message, uint32_t *out, size_t out_len);
+saigagalena_answer saigagalena_encrypt_message_signed_error_words(uint32_t modulus, size_t n, uint32_t t, uint32_t error_limit,
+                                                                  uint32_t centered, const int32_t *secret, size_t secret_len,
+                                                                  const uint32_t *mask, size_t mask_len, const uint32_t *errors,
+                                                                  size_t errors_len, uint32_t message, uint32_t *out,
+                                                                  size_t out_len);
+saigagalena_answer saigagalena_encrypt_message_batch_error_words(uint32_t modulus, size_t n, uint32_t t, uint32_t error_limit,
+                                                                 uint32_t centered, const uint32_t *secret, size_t secret_len,
+                                                                 const uint32_t *masks, size_t masks_len,
+                                                                 const uint32_t *errors, size_t errors_len,
+                                                                 const uint32_t *messages, size_t messages_len, uint32_t *out,
+                                                                 size_t out_len);
+saigagalena_answer saigagalena_encrypt_encoded_packed_error_words(uint32_t modulus, size_t n, uint32_t error_limit,
+                                                                  const uint32_t *secret, size_t secret_len,
+                                                                  const uint32_t *mask, size_t mask_len, const uint32_t *errors,
+                                                                  size_t errors_len, const uint32_t *plaintexts,
+                                                                  size_t plaintexts_len, uint32_t *out, size_t out_len);
+saigagalena_answer saigagalena_encrypt_message_packed_error_words(uint32_t modulus, size_t n, uint32_t t, uint32_t error_limit,
+                                                                  uint32_t centered, const uint32_t *secret, size_t secret_len,
+                                                                  const uint32_t *mask, size_t mask_len, const uint32_t *errors,
+                                                                  size_t errors_len, const uint32_t *messages,
+                                                                  size_t messages_len, uint32_t *out, size_t out_len);
+uint32_t saigagalena_public_key_generate_error_words(uint32_t modulus, size_t n, uint32_t error_limit, const uint32_t *secret,
+                                                     size_t secret_len, const uint32_t *masks, size_t masks_len,
+                                                     const uint32_t *errors, size_t errors_len, uint32_t *out, size_t out_len);
+uint32_t saigagalena_public_key_generate_signed_error_words(uint32_t modulus, size_t n, uint32_t error_limit,
+                                                            const int32_t *secret, size_t secret_len, const uint32_t *masks,
+                                                            size_t masks_len, const uint32_t *errors, size_t errors_len,
+                                                            uint32_t *out, size_t out_len);
+saigagalena_answer saigagalena_public_key_encrypt_encoded_error_words(uint32_t modulus, size_t n, uint32_t error_limit,
+                                                                      const uint32_t *key, size_t key_len,
+                                                                      const uint32_t *errors, size_t errors_len,
+                                                                      const int32_t *coefficients, size_t coefficients_len,
+                                                                      uint32_t plaintext, uint32_t *out, size_t out_len);
+saigagalena_answer saigagalena_public_key_encrypt_message_error_words(uint32_t modulus, size_t n, uint32_t t,
+                                                                      uint32_t error_limit, uint32_t centered,
+                                                                      const uint32_t *key, size_t key_len,
+                                                                      const uint32_t *errors, size_t errors_len,
+                                                                      const int32_t *coefficients, size_t coefficients_len,
+                                                                      uint32_t message, uint32_t *out, size_t out_len);
+uint32_t saigagalena_switching_key_generate_error_words(uint32_t modulus, uint32_t base_log, uint32_t levels, size_t n,
+                                                        size_t m, uint32_t error_limit, const uint32_t *input_key,
+                                                        size_t input_key_len, const uint32_t *output_key, size_t output_key_len,
+                                                        const uint32_t *masks, size_t masks_len, const uint32_t *errors,
+                                                        size_t errors_len, uint32_t *out, size_t out_len);
+uint32_t saigagalena_switching_key_generate_signed_error_words(uint32_t modulus, uint32_t base_log, uint32_t levels, size_t n,
+                                                               size_t m, uint32_t error_limit, const int32_t *input_key,
+                                                               size_t input_key_len, const uint32_t *output_key,
+                                                               size_t output_key_len, const uint32_t *masks, size_t masks_len,
+                                                               const uint32_t *errors, size_t errors_len, uint32_t *out,
+                                                               size_t out_len);
 
 #ifdef __cplusplus
 }

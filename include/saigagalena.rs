@@ -4,7 +4,7 @@
 #![allow(dead_code)]
 
 /// The release that these declarations are of.
-pub const VERSION: u32 = 4;
+pub const VERSION: u32 = 5;
 /// An answer of 64 bits above this is a refusal: this plus the refusal number.
 pub const REFUSED: u64 = 1 << 32;
 /// The tally of a public-key, packed or switched ciphertext: none.
@@ -74,4 +74,17 @@ unsafe extern "C" {
     pub fn saigagalena_switching_key_generate_signed(modulus: u32, base_log: u32, levels: u32, n: usize, m: usize, error_limit: u32, input_key: *const i32, input_key_len: usize, output_key: *const u32, output_key_len: usize, masks: *const u32, masks_len: usize, errors: *const i32, errors_len: usize, out: *mut u32, out_len: usize) -> u32;
     pub fn saigagalena_key_switch(modulus: u32, base_log: u32, levels: u32, n: usize, m: usize, key: *const u32, key_len: usize, input: *const u32, input_len: usize, out: *mut u32, out_len: usize) -> Answer;
     pub fn saigagalena_key_switch_batch(modulus: u32, base_log: u32, levels: u32, n: usize, m: usize, key: *const u32, key_len: usize, input: *const u32, input_len: usize, out: *mut u32, out_len: usize) -> Answer;
+    pub fn saigagalena_encrypt_encoded_error_words(modulus: u32, n: usize, error_limit: u32, secret: *const u32, secret_len: usize, mask: *const u32, mask_len: usize, errors: *const u32, errors_len: usize, plaintext: u32, out: *mut u32, out_len: usize) -> Answer;
+    pub fn saigagalena_encrypt_encoded_signed_error_words(modulus: u32, n: usize, error_limit: u32, secret: *const i32, secret_len: usize, mask: *const u32, mask_len: usize, errors: *const u32, errors_len: usize, plaintext: u32, out: *mut u32, out_len: usize) -> Answer;
+    pub fn saigagalena_encrypt_message_error_words(modulus: u32, n: usize, t: u32, error_limit: u32, centered: u32, secret: *const u32, secret_len: usize, mask: *const u32, mask_len: usize, errors: *const u32, errors_len: usize, message: u32, out: *mut u32, out_len: usize) -> Answer;
+    pub fn saigagalena_encrypt_message_signed_error_words(modulus: u32, n: usize, t: u32, error_limit: u32, centered: u32, secret: *const i32, secret_len: usize, mask: *const u32, mask_len: usize, errors: *const u32, errors_len: usize, message: u32, out: *mut u32, out_len: usize) -> Answer;
+    pub fn saigagalena_encrypt_message_batch_error_words(modulus: u32, n: usize, t: u32, error_limit: u32, centered: u32, secret: *const u32, secret_len: usize, masks: *const u32, masks_len: usize, errors: *const u32, errors_len: usize, messages: *const u32, messages_len: usize, out: *mut u32, out_len: usize) -> Answer;
+    pub fn saigagalena_encrypt_encoded_packed_error_words(modulus: u32, n: usize, error_limit: u32, secret: *const u32, secret_len: usize, mask: *const u32, mask_len: usize, errors: *const u32, errors_len: usize, plaintexts: *const u32, plaintexts_len: usize, out: *mut u32, out_len: usize) -> Answer;
+    pub fn saigagalena_encrypt_message_packed_error_words(modulus: u32, n: usize, t: u32, error_limit: u32, centered: u32, secret: *const u32, secret_len: usize, mask: *const u32, mask_len: usize, errors: *const u32, errors_len: usize, messages: *const u32, messages_len: usize, out: *mut u32, out_len: usize) -> Answer;
+    pub fn saigagalena_public_key_generate_error_words(modulus: u32, n: usize, error_limit: u32, secret: *const u32, secret_len: usize, masks: *const u32, masks_len: usize, errors: *const u32, errors_len: usize, out: *mut u32, out_len: usize) -> u32;
+    pub fn saigagalena_public_key_generate_signed_error_words(modulus: u32, n: usize, error_limit: u32, secret: *const i32, secret_len: usize, masks: *const u32, masks_len: usize, errors: *const u32, errors_len: usize, out: *mut u32, out_len: usize) -> u32;
+    pub fn saigagalena_public_key_encrypt_encoded_error_words(modulus: u32, n: usize, error_limit: u32, key: *const u32, key_len: usize, errors: *const u32, errors_len: usize, coefficients: *const i32, coefficients_len: usize, plaintext: u32, out: *mut u32, out_len: usize) -> Answer;
+    pub fn saigagalena_public_key_encrypt_message_error_words(modulus: u32, n: usize, t: u32, error_limit: u32, centered: u32, key: *const u32, key_len: usize, errors: *const u32, errors_len: usize, coefficients: *const i32, coefficients_len: usize, message: u32, out: *mut u32, out_len: usize) -> Answer;
+    pub fn saigagalena_switching_key_generate_error_words(modulus: u32, base_log: u32, levels: u32, n: usize, m: usize, error_limit: u32, input_key: *const u32, input_key_len: usize, output_key: *const u32, output_key_len: usize, masks: *const u32, masks_len: usize, errors: *const u32, errors_len: usize, out: *mut u32, out_len: usize) -> u32;
+    pub fn saigagalena_switching_key_generate_signed_error_words(modulus: u32, base_log: u32, levels: u32, n: usize, m: usize, error_limit: u32, input_key: *const i32, input_key_len: usize, output_key: *const u32, output_key_len: usize, masks: *const u32, masks_len: usize, errors: *const u32, errors_len: usize, out: *mut u32, out_len: usize) -> u32;
 }
