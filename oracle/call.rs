@@ -179,6 +179,9 @@ pub struct Call {
     /// A public key or a switching key.
     pub key: Vec<u32>,
     pub masks: Vec<u32>,
+    /// The errors are words: the library's calls whose names end in `_error_words`.
+    pub error_words: bool,
+    /// Signed numbers, or words in two's complement.
     pub errors: Vec<i32>,
     pub coefficients: Vec<i32>,
     /// Words, messages or ciphertexts; a call of one number has it alone.
@@ -221,6 +224,30 @@ impl Call {
     pub fn numbers(&self) -> Vec<i32> {
         self.secret.iter().map(|&w| w as i32).collect()
     }
+    /// The errors as they are lent: signed numbers, or words.
+    pub fn lent_errors(&self) -> Vec<i64> {
+        let lent = |&e: &i32| {
+            if self.error_words {
+                e as u32 as i64
+            } else {
+                e as i64
+            }
+        };
+        self.errors.iter().map(lent).collect()
+    }
+    /// What they count as: "a word w counts as w when w ≤ q/2, otherwise as w − q".
+    pub fn signed_errors(&self) -> Vec<i64> {
+        let q = self.q() as i64;
+        let lent = self.lent_errors().into_iter();
+        lent.map(|e| {
+            if self.error_words && 2 * e > q {
+                e - q
+            } else {
+                e
+            }
+        })
+        .collect()
+    }
     /// The one number of a call that takes one.
     pub fn value(&self) -> u32 {
         self.input[0]
@@ -238,7 +265,8 @@ impl Call {
             .iter()
             .flat_map(|run| run.iter())
             .map(|&w| w as u128 + 4);
-        let lent = self.errors.iter().chain(&self.coefficients);
+        let coefficients = self.coefficients.iter().map(|&c| c as i64);
+        let lent = self.lent_errors().into_iter().chain(coefficients);
         let lent = lent.map(|e| e.unsigned_abs() as u128 + 4);
         let numbers = [self.base_log, self.levels, self.t, self.bound];
         let numbers = numbers.iter().map(|&x| x as u128);
@@ -277,7 +305,8 @@ impl std::fmt::Display for Call {
         run(f, "output key", &self.output_key)?;
         run(f, "key", &self.key)?;
         run(f, "masks", &self.masks)?;
-        run(f, "errors", &self.errors)?;
+        let errors = ["errors", "error words"][self.error_words as usize];
+        run(f, errors, &self.lent_errors())?;
         run(f, "coefficients", &self.coefficients)?;
         run(f, "input", &self.input)?;
         if kind.answers_a_number() {

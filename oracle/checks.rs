@@ -30,6 +30,7 @@ pub enum Check {
     OutputKeyWord,
     KeyWord,
     MaskWord,
+    ErrorWord,
     InputWord,
     ErrorOutside,
     CoefficientOutside,
@@ -53,7 +54,8 @@ impl Check {
             OutputLength => 11,
             MaskLength | ErrorLength | CoefficientLength => 12,
             BoundAboveLimit | BoundNotBelowQ => 13,
-            SecretWord | SecretNumber | OutputKeyWord | KeyWord | MaskWord | InputWord => 14,
+            SecretWord | SecretNumber | OutputKeyWord | KeyWord | MaskWord | ErrorWord
+            | InputWord => 14,
             ErrorOutside | CoefficientOutside => 15,
             MessageNotBelowT => 16,
         }
@@ -238,6 +240,7 @@ fn number_checks(call: &Call) -> Vec<(Check, bool)> {
     let above = |words: &[u32]| words.iter().any(|&w| w as u64 >= q);
     let outside =
         |numbers: &[i32], most: u64| numbers.iter().any(|c| c.unsigned_abs() as u64 > most);
+    let far = |e: &i64| e.unsigned_abs() > call.bound as u64;
     let (signed, messages) = (call.kind.is_signed(), call.kind.takes_messages());
     vec![
         (SecretWord, !signed && above(&call.secret)),
@@ -248,8 +251,12 @@ fn number_checks(call: &Call) -> Vec<(Check, bool)> {
         (OutputKeyWord, above(&call.output_key)),
         (KeyWord, above(&call.key)),
         (MaskWord, above(&call.masks)),
+        (
+            ErrorWord,
+            call.error_words && call.lent_errors().iter().any(|&w| w as u64 >= q),
+        ),
         (InputWord, !messages && above(&call.input)),
-        (ErrorOutside, outside(&call.errors, call.bound as u64)),
+        (ErrorOutside, call.signed_errors().iter().any(far)),
         (CoefficientOutside, outside(&call.coefficients, 1)),
         (
             MessageNotBelowT,

@@ -60,6 +60,8 @@ pub fn allowed(kind: Kind, check: Check) -> Option<&'static [Does]> {
         BoundAboveLimit | BoundNotBelowQ | ErrorOutside => &[Answers],
         // Its contract asks for canonical words and checks none; digits overflow.
         SecretWord | SecretNumber | OutputKeyWord | MaskWord => &[Answers],
+        // Its sampler hands out words below q; the shim reduces what it is lent.
+        ErrorWord => &[Answers],
         InputWord => input_word(kind),
         MessageNotBelowT => &[Panics],
         // Keys come from `generate` alone, and a generator hands out what is asked for.

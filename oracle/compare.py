@@ -26,8 +26,8 @@ sys.path.insert(0, str(ROOT / "scripts"))
 
 from codec_vectors import SLICE, VALUE
 from digits_vectors import BASIS, SHORT_WORD, WORD
-from lwe_vectors import HEAD, Pick
-from scheme01 import Basis, Draw
+from lwe_vectors import HEAD, WORDED, Pick
+from scheme01 import Basis, Draw, nearest
 from switch_vectors import OPEN, generated, switched
 
 ANSWERED, REFUSED, PANICKED, MALFORMED = range(4)
@@ -224,7 +224,8 @@ NAMES = {
 
 
 def stored_calls(name):
-    """The accepted records of a file of lwe_vectors.py's form: head, operands a .. e, the buffer after the call."""
+    """The accepted records of a file of lwe_vectors.py's form: kind, head, operands a .. e, the buffer after the call, and what to add to a
+    name. Errors that are words go to the Rust as the numbers that they count as; its sampler makes words of them again."""
     data = (ROOT / "crates/lwe_vectors/data" / name).read_bytes()
     at = 0
     while data[at]:
@@ -236,21 +237,25 @@ def stored_calls(name):
             lists.append(list(struct.unpack_from(f"<{count}I", data, at)))
             at += 4 * count
         if not refusal:
-            yield head, lists[:5], lists[6]
+            kind, explicit, q = head[:3]
+            worded = kind > WORDED
+            if worded:
+                lists[4] = [nearest(q if explicit else 2**32, w) for w in lists[4]]
+            yield kind % WORDED, head, lists[:5], lists[6], ", errors as words" if worded else ""
 
 
 def stored_lwe(rust, tally):
-    for head, operands, after in stored_calls("lwe.bin"):
-        kind, explicit, q, n, t, _, embedding, _, value, answer = head[:10]
+    for kind, head, operands, after, form in stored_calls("lwe.bin"):
+        _, explicit, q, n, t, _, embedding, _, value, answer = head[:10]
         if kind in NAMES:
             expected = after or ([answer] if kind in (10, 11, 14, 15) else [])
             got = rust_answer(rust.say, kind, modulus_of(explicit, q), n, t, embedding, value, *operands)
-            tally.same(NAMES[kind], (head, operands), (ANSWERED, expected), got)
+            tally.same(NAMES[kind] + form, (head, operands), (ANSWERED, expected), got)
 
 
 def stored_switches(rust, tally):
-    for head, (a, b, c, d, e), after in stored_calls("switch.bin"):
-        kind, explicit, q, n = head[:4]
+    for kind, head, (a, b, c, d, e), after, form in stored_calls("switch.bin"):
+        _, explicit, q, n = head[:4]
         m, log, levels = head[16:]
         basis = (modulus_of(explicit, q), log, 0 if levels == OPEN else levels)
         if kind in (28, 29):
@@ -259,7 +264,7 @@ def stored_switches(rust, tally):
             name, record = "stored single switches" if kind == 30 else "stored batches", (kind + 21, *basis, n, m, a, b)
         else:
             continue
-        tally.same(name, record, after, rust.words(*record))
+        tally.same(name + form, record, after, rust.words(*record))
 
 
 def every_word(rust, tally, most):

@@ -110,9 +110,31 @@ fn damage_number(draw: &mut Draw, call: &mut Call) {
     }
 }
 
+/// A word of q or more, or one that counts as a number outside ±E, unless E is as large as q/2.
+fn damage_error_word(draw: &mut Draw, call: &mut Call) {
+    let (q, bound) = (call.q(), call.bound as u64);
+    let outside = [bound + 1, q.saturating_sub(bound + 1), q / 2, q / 2 + 1];
+    let bad = draw.choose(&[
+        q,
+        q + 1,
+        u32::MAX as u64,
+        outside[0],
+        outside[1],
+        outside[2],
+        outside[3],
+    ]);
+    if !call.errors.is_empty() {
+        let place = draw.below(call.errors.len() as u64) as usize;
+        call.errors[place] = bad.min(u32::MAX as u64) as u32 as i32;
+    }
+}
+
 fn damage_error(draw: &mut Draw, call: &mut Call) {
+    if call.error_words && draw.one_in(2) {
+        return damage_error_word(draw, call);
+    }
     let (run, limit) = match draw.below(2) {
-        0 => (&mut call.errors, call.bound as i64 + 1),
+        0 if !call.error_words => (&mut call.errors, call.bound as i64 + 1),
         _ => (&mut call.coefficients, 2),
     };
     let limit = limit.min(i32::MAX as i64) as i32;

@@ -132,10 +132,23 @@ fn secret(draw: &mut Draw, call: &Call) -> Vec<u32> {
     (0..call.n).map(|_| signed(draw, most) as u32).collect()
 }
 
+/// A number within ±E, or a word that counts as one: that of such a number, or one about q/2.
+fn error(draw: &mut Draw, call: &Call) -> i32 {
+    let (q, most) = (call.q() as i64, call.bound as i64);
+    let any = signed(draw, most);
+    if !call.error_words {
+        return any;
+    }
+    let half = q / 2 + draw.below(2) as i64;
+    if draw.one_in(3) && half <= most && q - half <= most {
+        half as i32
+    } else {
+        (any as i64).rem_euclid(q) as u32 as i32
+    }
+}
+
 fn errors(draw: &mut Draw, call: &Call, count: usize) -> Vec<i32> {
-    (0..count)
-        .map(|_| signed(draw, call.bound as i64))
-        .collect()
+    (0..count).map(|_| error(draw, call)).collect()
 }
 
 fn messages(draw: &mut Draw, call: &Call, count: usize) -> Vec<u32> {
@@ -185,7 +198,9 @@ fn parameters(draw: &mut Draw, kind: Kind, (n, m): (usize, usize)) -> Call {
     call.t = draw.choose(&[any, middle, small, small, 2, most]) as u32;
     let most = (call.q() - 1).min(LIMIT);
     let any = draw.below(most + 1);
-    call.bound = draw.choose(&[any, 0, 1.min(most), 3.min(most), most]) as u32;
+    let half = (call.q() / 2).min(most);
+    call.bound = draw.choose(&[any, 0, 1.min(most), 3.min(most), half, most]) as u32;
+    call.error_words = kind.has_bound() && draw.one_in(2);
     call
 }
 

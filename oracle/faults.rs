@@ -36,8 +36,19 @@ const fn said(name: &'static str, kinds: &'static [Kind], alter: fn(&mut Vec<u32
 
 use Kind::*;
 
+/// The kinds that are lent errors.
+const LENDING: &[Kind] = &[
+    EncryptEncoded,
+    EncryptMessageSigned,
+    EncryptMessageBatch,
+    PackEncoded,
+    PublicKey,
+    PublicMessage,
+    GenerateSigned,
+];
+
 #[rustfmt::skip]
-const FAULTS: [Fault; 12] = [
+const FAULTS: [Fault; 14] = [
     said("the lowest bit of the last word", Kind::ALL, flip),
     said("a word missing", Kind::ALL, |words| words.truncate(words.len().saturating_sub(1))),
     said("the words of a ciphertext turned round", &[EncryptEncoded, SwitchBatch], |words| words.reverse()),
@@ -45,6 +56,8 @@ const FAULTS: [Fault; 12] = [
     given("one level fewer", &[Digits, Generate], |call| call.levels = call.level_count().saturating_sub(1).max(1) as u32),
     given("masks in another order", &[Generate, PackEncoded], |call| call.masks.reverse()),
     given("errors in another order", &[PublicEncoded, Generate], |call| call.errors.reverse()),
+    given("an error word one higher", LENDING, |call| if let (true, Some(e)) = (call.error_words, call.errors.first_mut()) { *e = e.wrapping_add(1) }),
+    given("an error word read as a number of the same bits", LENDING, |call| call.error_words = false),
     given("a mask word and an error exchanged", &[EncryptEncoded, PublicKey], exchange),
     given("the other embedding", &[Encode, EncryptMessage], |call| call.centered = (call.centered == 0) as u32),
     given("coefficients of the other sign", &[PublicEncoded, PublicMessage], |call| call.coefficients.iter_mut().for_each(|c| *c = -*c)),
@@ -128,8 +141,20 @@ fn tally_differs(draw: &mut Draw, kinds: &[Kind], rule: fn(&Call) -> u64) -> boo
 
 /// |e|, which is not E.
 fn tally_of_the_error(call: &Call) -> u64 {
-    let most = call.errors.iter().map(|e| e.unsigned_abs() as u64).max();
-    most.unwrap_or(0)
+    let errors = call.signed_errors().into_iter();
+    errors.map(i64::unsigned_abs).max().unwrap_or(0)
+}
+
+/// Words judged as they stand: 15 is of what they count as.
+fn judgement_differs(draw: &mut Draw) -> bool {
+    let kind = draw.choose(LENDING);
+    let mut call = accepted(draw, kind);
+    call.error_words = true;
+    let far = |e: &i64| *e > call.bound as i64;
+    let expected = call.lent_errors().iter().any(far);
+    let checks = checks::applying(&call);
+    let said = proved::told(&call).said;
+    checks.is_empty() && expected != (said == Said::Refused(15))
 }
 
 fn say(name: &str, after: Option<u64>) -> bool {
@@ -154,6 +179,7 @@ pub fn all_noticed(seed: u64) -> i32 {
         "a Rust that accepts everything",
         noticed(seed, acceptance_differs),
     );
+    all &= say("15 judged on the word", noticed(seed, judgement_differs));
     let single = [EncryptEncoded, EncryptMessageSigned];
     all &= say(
         "a tally of |e|",

@@ -25,7 +25,15 @@ impl From<Said> for Told {
 }
 
 /// A call that writes: its numbers, its runs, perhaps one number more, and the output. What it returns, and the output.
+/// Of two functions, the second takes the errors as words.
 macro_rules! lent {
+    ($call:ident, [$signed:ident, $words:ident], $($rest:tt)*) => {
+        if $call.error_words {
+            lent!($call, $words, $($rest)*)
+        } else {
+            lent!($call, $signed, $($rest)*)
+        }
+    };
     ($call:ident, $function:ident, [$($number:expr),*], [$($run:ident),*] $(, $last:expr)?) => {{
         let mut out = vec![FILL; $call.out_len];
         // SAFETY: each pointer and length is one run of the call, alive and lent while the function runs.
@@ -157,28 +165,40 @@ fn encryption_call(c: &Call) -> Told {
     match c.kind {
         Kind::EncryptEncoded => tagging!(
             c,
-            saigagalena_encrypt_encoded,
+            [
+                saigagalena_encrypt_encoded,
+                saigagalena_encrypt_encoded_error_words
+            ],
             [q, n, bound],
             [secret, masks, errors],
             c.value()
         ),
         Kind::EncryptEncodedSigned => tagging!(
             c,
-            saigagalena_encrypt_encoded_signed,
+            [
+                saigagalena_encrypt_encoded_signed,
+                saigagalena_encrypt_encoded_signed_error_words
+            ],
             [q, n, bound],
             [secret, masks, errors],
             c.value()
         ),
         Kind::EncryptMessage => tagging!(
             c,
-            saigagalena_encrypt_message,
+            [
+                saigagalena_encrypt_message,
+                saigagalena_encrypt_message_error_words
+            ],
             [q, n, t, bound, centered],
             [secret, masks, errors],
             c.value()
         ),
         _ => tagging!(
             c,
-            saigagalena_encrypt_message_signed,
+            [
+                saigagalena_encrypt_message_signed,
+                saigagalena_encrypt_message_signed_error_words
+            ],
             [q, n, t, bound, centered],
             [secret, masks, errors],
             c.value()
@@ -192,19 +212,28 @@ fn run_encryption_call(c: &Call) -> Told {
     match c.kind {
         Kind::EncryptMessageBatch => tagging!(
             c,
-            saigagalena_encrypt_message_batch,
+            [
+                saigagalena_encrypt_message_batch,
+                saigagalena_encrypt_message_batch_error_words
+            ],
             [q, n, t, bound, centered],
             [secret, masks, errors, input]
         ),
         Kind::PackEncoded => tagging!(
             c,
-            saigagalena_encrypt_encoded_packed,
+            [
+                saigagalena_encrypt_encoded_packed,
+                saigagalena_encrypt_encoded_packed_error_words
+            ],
             [q, n, bound],
             [secret, masks, errors, input]
         ),
         _ => tagging!(
             c,
-            saigagalena_encrypt_message_packed,
+            [
+                saigagalena_encrypt_message_packed,
+                saigagalena_encrypt_message_packed_error_words
+            ],
             [q, n, t, bound, centered],
             [secret, masks, errors, input]
         ),
@@ -255,25 +284,37 @@ fn key_call(c: &Call) -> Said {
     match c.kind {
         Kind::PublicKey => writing!(
             c,
-            saigagalena_public_key_generate,
+            [
+                saigagalena_public_key_generate,
+                saigagalena_public_key_generate_error_words
+            ],
             [q, n, bound],
             [secret, masks, errors]
         ),
         Kind::PublicKeySigned => writing!(
             c,
-            saigagalena_public_key_generate_signed,
+            [
+                saigagalena_public_key_generate_signed,
+                saigagalena_public_key_generate_signed_error_words
+            ],
             [q, n, bound],
             [secret, masks, errors]
         ),
         Kind::Generate => writing!(
             c,
-            saigagalena_switching_key_generate,
+            [
+                saigagalena_switching_key_generate,
+                saigagalena_switching_key_generate_error_words
+            ],
             [q, log, levels, n, m, bound],
             [secret, output_key, masks, errors]
         ),
         _ => writing!(
             c,
-            saigagalena_switching_key_generate_signed,
+            [
+                saigagalena_switching_key_generate_signed,
+                saigagalena_switching_key_generate_signed_error_words
+            ],
             [q, log, levels, n, m, bound],
             [secret, output_key, masks, errors]
         ),
@@ -285,14 +326,20 @@ fn public_call(c: &Call) -> Told {
     match c.kind {
         Kind::PublicEncoded => tagging!(
             c,
-            saigagalena_public_key_encrypt_encoded,
+            [
+                saigagalena_public_key_encrypt_encoded,
+                saigagalena_public_key_encrypt_encoded_error_words
+            ],
             [q, n, bound],
             [key, errors, coefficients],
             c.value()
         ),
         _ => tagging!(
             c,
-            saigagalena_public_key_encrypt_message,
+            [
+                saigagalena_public_key_encrypt_message,
+                saigagalena_public_key_encrypt_message_error_words
+            ],
             [q, n, t, bound, centered],
             [key, errors, coefficients],
             c.value()

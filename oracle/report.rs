@@ -29,12 +29,15 @@ pub struct Report {
     refusals: BTreeMap<(Check, Option<Does>), Seen>,
     /// Refused calls that the Rust was asked, too.
     asked: u64,
+    /// Calls of the library that took the errors as words.
+    error_words: u64,
     pub different: u64,
 }
 
 impl Report {
     pub fn add(&mut self, call: &Call, outcome: Outcome) {
         let counts = self.counts.entry(call.kind).or_default();
+        self.error_words += call.error_words as u64;
         match outcome {
             Outcome::Same(words) => {
                 counts.words += words as u64;
@@ -94,6 +97,7 @@ impl Report {
             total.words += c.words;
         }
         line(total, "in all");
+        println!("errors were words in {} of these calls", self.error_words);
     }
 
     /// What the Rust did where 01 refuses for one reason alone.

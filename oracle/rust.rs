@@ -37,11 +37,10 @@ struct Lent {
 impl Lent {
     fn of(call: &Call) -> Self {
         let words: Vec<u64> = call.masks.iter().map(|&w| w as u64).collect();
-        let errors: Vec<i64> = call.errors.iter().map(|&e| e as i64).collect();
         let coefficients: Vec<i8> = call.coefficients.iter().map(|&c| c as i8).collect();
         Self {
             words: words.into_iter(),
-            errors: errors.into_iter(),
+            errors: call.lent_errors().into_iter(),
             coefficients: coefficients.into_iter(),
         }
     }

@@ -123,6 +123,32 @@ fn encryptions(report: &mut Report, q: u32, signed: bool) {
     }
 }
 
+/// Every word of an error and one past the last, with every E.
+fn error_words(report: &mut Report, q: u32) {
+    for choice in every(&[q, q + 1]) {
+        let call = Call {
+            kind: Kind::EncryptEncoded,
+            modulus: q,
+            n: 1,
+            bound: choice[0],
+            secret: vec![1],
+            masks: vec![2],
+            input: vec![3],
+            error_words: true,
+            errors: vec![choice[1] as i32],
+            out_len: 2,
+            ..Call::default()
+        };
+        report.add(&call, compare(&call));
+        let public = Call {
+            kind: Kind::PublicKey,
+            input: vec![],
+            ..call
+        };
+        report.add(&public, compare(&public));
+    }
+}
+
 /// Every secret and ciphertext of dimension 1.
 fn phases(report: &mut Report, q: u32, signed: bool) {
     for choice in every(&[if signed { 2 * q - 1 } else { q }, q, q]) {
@@ -237,6 +263,7 @@ pub fn everything(report: &mut Report, seed: u64) {
     for q in 4..=17 {
         switches(report, &mut draw, q);
         keys(report, q);
+        error_words(report, q);
     }
     for q in 4..=8 {
         for signed in [false, true] {
