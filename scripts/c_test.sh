@@ -46,6 +46,7 @@ try() {
         "$cc" -std=c11 $strict "$@" examples/pool.c "$archive" -o "$dir/pool"
         "$cc" -std=c11 $strict "$@" tests/c/cases.c "$archive" -o "$dir/cases"
         "$cc" -std=c11 $strict "$@" tests/c/tags.c "$archive" -o "$dir/tags"
+        "$cc" -std=c11 $strict "$@" tests/c/error_words.c "$archive" -o "$dir/error_words"
         "$cc" -std=c11 $strict "$@" tests/c/refusals.c $harness $model "$archive" -o "$dir/refusals"
     }
     "$dir/decode"
@@ -53,6 +54,7 @@ try() {
     diff examples/pool.out "$dir/pool.out"
     "$dir/cases"
     "$dir/tags"
+    "$dir/error_words"
     "$dir/refusals"
 }
 

@@ -10,7 +10,7 @@
 #include "library.h"
 
 static const char *const field_names[FIELDS] = {"key",    "signed key",   "output key", "mask",
-                                                "errors", "coefficients", "input",      "out"};
+                                                "errors", "error words",  "coefficients", "input", "out"};
 static const char *const placement_names[PLACEMENTS] = {"behind a closed page", "before a closed page", "between guard words",
                                                         "on the heap"};
 

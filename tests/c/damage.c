@@ -35,6 +35,12 @@ static int has_bad_content(const struct call *call, enum field f)
     return f != OUT || call->takes & SUM;
 }
 
+/* How many numbers bad_element has of a field. */
+static unsigned bad_kinds(enum field f)
+{
+    return f == ERROR_WORDS ? 8 : 4;
+}
+
 size_t list_damages(const struct call *call, struct damage list[MOST_DAMAGES])
 {
     size_t count = 0;
@@ -57,7 +63,7 @@ size_t list_damages(const struct call *call, struct damage list[MOST_DAMAGES])
             continue;
         count = add_damages(list, count, (struct damage){BAD_LENGTH, LENGTHS, (enum field)f, 0}, f == INPUT ? 8 : 6);
         if (has_bad_content(call, (enum field)f))
-            count = add_damages(list, count, (struct damage){BAD_CONTENT, CONTENTS, (enum field)f, 0}, 12);
+            count = add_damages(list, count, (struct damage){BAD_CONTENT, CONTENTS, (enum field)f, 0}, 3 * bad_kinds((enum field)f));
     }
     return count;
 }
@@ -164,12 +170,16 @@ static int64_t bad_element(const struct call *call, enum field f, unsigned varia
     const int64_t words[] = {q, UINT32_MAX, q + 1, q}, messages[] = {t, t + 1, q, UINT32_MAX};
     const int64_t keys[] = {q, -q, INT32_MIN, INT32_MAX};
     const int64_t errors[] = {E + 1, -E - 1, INT32_MIN, INT32_MAX}, coefficients[] = {2, -2, INT32_MIN, INT32_MAX};
+    /* four that are not below an explicit q; four that are refused where E is below the magnitude of what they count as */
+    const int64_t error_words[] = {q, UINT32_MAX, q + 1, q + E, E + 1, q - E - 1, q / 2, q / 2 + 1};
 
     switch (f) {
     case SIGNED_KEY:
         return keys[variant];
     case ERRORS:
         return errors[variant];
+    case ERROR_WORDS:
+        return error_words[variant];
     case COEFFICIENTS:
         return coefficients[variant];
     default:
@@ -182,14 +192,14 @@ static void damage_content(struct draw *d, const struct call *call, const struct
 {
     const enum field f = damage->field;
     const size_t have = len(o, f);
-    const int64_t bad = bad_element(call, f, damage->variant % 4, o);
+    const int64_t bad = bad_element(call, f, damage->variant % bad_kinds(f), o);
     const int is_signed = f == SIGNED_KEY || f == ERRORS || f == COEFFICIENTS;
 
     if (have == 0 || bad > (is_signed ? INT32_MAX : (int64_t)UINT32_MAX) || bad < INT32_MIN)
         return;
     const size_t places[] = {0, have - 1, draw_below(d, have)};
 
-    ((uint32_t *)o->slice[f].at)[places[damage->variant / 4]] = (uint32_t)bad;
+    ((uint32_t *)o->slice[f].at)[places[damage->variant / bad_kinds(f)]] = (uint32_t)bad;
 }
 
 static void damage_parameter(const struct damage *damage, struct operands *o)

@@ -59,7 +59,8 @@ static void draw_base(struct draw *d, struct operands *o)
 static uint32_t draw_bound(struct draw *d, uint64_t q)
 {
     const uint64_t most = least(q - 1, 1048576);
-    const uint64_t bounds[] = {0, least(1, most), least(3, most), most, draw_below(d, most + 1)};
+    const uint64_t bounds[] = {0, least(1, most), least(3, most), least(q / 2 - 1, most), least(q / 2, most), most,
+                               draw_below(d, most + 1)};
 
     return (uint32_t)CHOOSE(d, bounds);
 }
@@ -242,6 +243,17 @@ static int32_t draw_within(struct draw *d, uint64_t limit)
     }
 }
 
+/* A word below q that counts as a number from -limit to limit: one about q/2 where that is so, or that of any such number. */
+static uint32_t draw_error_word(struct draw *d, uint64_t q, uint64_t limit)
+{
+    const uint32_t half = (uint32_t)(q / 2 + draw_below(d, 3) - 1);
+    const int64_t most = (int64_t)limit, e = counts_as(half, q), any = draw_within(d, limit);
+
+    if (draw_below(d, 3) == 0 && -most <= e && e <= most)
+        return half;
+    return (uint32_t)(any < 0 ? any + (int64_t)q : any);
+}
+
 static uint32_t draw_message(struct draw *d, uint32_t t)
 {
     if (t == 0)
@@ -258,6 +270,8 @@ static uint32_t draw_element(struct draw *d, const struct call *call, const stru
         return (uint32_t)draw_within(d, q - 1);
     case ERRORS:
         return (uint32_t)draw_within(d, o->bound);
+    case ERROR_WORDS:
+        return draw_error_word(d, q, o->bound);
     case COEFFICIENTS:
         return (uint32_t)draw_within(d, 1);
     case INPUT:

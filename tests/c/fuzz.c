@@ -98,12 +98,12 @@ static double now(void)
 
 static void print_table(void)
 {
-    printf("%-30s %8s", "call", "accepted");
+    printf("%-41s %8s", "call", "accepted");
     for (size_t x = 0; x < model_order_count; x++)
         printf(" %6u", model_order[x]);
     printf("\n");
     for (size_t i = 0; i < call_count; i++) {
-        printf("%-30s %8lu", calls[i].name, seen[i][0]);
+        printf("%-41s %8lu", calls[i].name, seen[i][0]);
         for (size_t x = 0; x < model_order_count; x++)
             printf(seen[i][model_order[x]] ? " %6lu" : " %6.0lu", seen[i][model_order[x]]);
         printf("\n");

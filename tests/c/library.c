@@ -234,6 +234,85 @@ static struct answer call_key_switch_batch(const struct operands *o)
         SLICE(INPUT), SLICE(OUT)));
 }
 
+static struct answer call_encrypt_encoded_error_words(const struct operands *o)
+{
+    return with_tag(saigagalena_encrypt_encoded_error_words(o->modulus, o->n, o->bound, SLICE(KEY), SLICE(MASK),
+        SLICE(ERROR_WORDS), o->value, SLICE(OUT)));
+}
+
+static struct answer call_encrypt_encoded_signed_error_words(const struct operands *o)
+{
+    return with_tag(saigagalena_encrypt_encoded_signed_error_words(o->modulus, o->n, o->bound,
+        SLICE(SIGNED_KEY), SLICE(MASK), SLICE(ERROR_WORDS), o->value, SLICE(OUT)));
+}
+
+static struct answer call_encrypt_message_error_words(const struct operands *o)
+{
+    return with_tag(saigagalena_encrypt_message_error_words(o->modulus, o->n, o->t, o->bound, o->centered,
+        SLICE(KEY), SLICE(MASK), SLICE(ERROR_WORDS), o->value, SLICE(OUT)));
+}
+
+static struct answer call_encrypt_message_signed_error_words(const struct operands *o)
+{
+    return with_tag(saigagalena_encrypt_message_signed_error_words(o->modulus, o->n, o->t, o->bound,
+        o->centered, SLICE(SIGNED_KEY), SLICE(MASK), SLICE(ERROR_WORDS), o->value, SLICE(OUT)));
+}
+
+static struct answer call_encrypt_message_batch_error_words(const struct operands *o)
+{
+    return with_tag(saigagalena_encrypt_message_batch_error_words(o->modulus, o->n, o->t, o->bound, o->centered,
+        SLICE(KEY), SLICE(MASK), SLICE(ERROR_WORDS), SLICE(INPUT), SLICE(OUT)));
+}
+
+static struct answer call_encrypt_encoded_packed_error_words(const struct operands *o)
+{
+    return with_tag(saigagalena_encrypt_encoded_packed_error_words(o->modulus, o->n, o->bound, SLICE(KEY),
+        SLICE(MASK), SLICE(ERROR_WORDS), SLICE(INPUT), SLICE(OUT)));
+}
+
+static struct answer call_encrypt_message_packed_error_words(const struct operands *o)
+{
+    return with_tag(saigagalena_encrypt_message_packed_error_words(o->modulus, o->n, o->t, o->bound,
+        o->centered, SLICE(KEY), SLICE(MASK), SLICE(ERROR_WORDS), SLICE(INPUT), SLICE(OUT)));
+}
+
+static struct answer call_public_key_generate_error_words(const struct operands *o)
+{
+    return number_only(saigagalena_public_key_generate_error_words(o->modulus, o->n, o->bound, SLICE(KEY),
+        SLICE(MASK), SLICE(ERROR_WORDS), SLICE(OUT)));
+}
+
+static struct answer call_public_key_generate_signed_error_words(const struct operands *o)
+{
+    return number_only(saigagalena_public_key_generate_signed_error_words(o->modulus, o->n, o->bound,
+        SLICE(SIGNED_KEY), SLICE(MASK), SLICE(ERROR_WORDS), SLICE(OUT)));
+}
+
+static struct answer call_public_key_encrypt_encoded_error_words(const struct operands *o)
+{
+    return with_tag(saigagalena_public_key_encrypt_encoded_error_words(o->modulus, o->n, o->bound, SLICE(KEY),
+        SLICE(ERROR_WORDS), SLICE(COEFFICIENTS), o->value, SLICE(OUT)));
+}
+
+static struct answer call_public_key_encrypt_message_error_words(const struct operands *o)
+{
+    return with_tag(saigagalena_public_key_encrypt_message_error_words(o->modulus, o->n, o->t, o->bound,
+        o->centered, SLICE(KEY), SLICE(ERROR_WORDS), SLICE(COEFFICIENTS), o->value, SLICE(OUT)));
+}
+
+static struct answer call_switching_key_generate_error_words(const struct operands *o)
+{
+    return number_only(saigagalena_switching_key_generate_error_words(o->modulus, o->base_log, o->levels, o->n,
+        o->m, o->bound, SLICE(KEY), SLICE(OUTPUT_KEY), SLICE(MASK), SLICE(ERROR_WORDS), SLICE(OUT)));
+}
+
+static struct answer call_switching_key_generate_signed_error_words(const struct operands *o)
+{
+    return number_only(saigagalena_switching_key_generate_signed_error_words(o->modulus, o->base_log, o->levels,
+        o->n, o->m, o->bound, SLICE(SIGNED_KEY), SLICE(OUTPUT_KEY), SLICE(MASK), SLICE(ERROR_WORDS),
+        SLICE(OUT)));
+}
+
 /* In the order of the model's table. */
 static library_call *const library_calls[] = {
     call_ciphertext_words, call_packed_words, call_public_key_words, call_switching_key_words, call_basis,
@@ -245,6 +324,12 @@ static library_call *const library_calls[] = {
     call_public_key_generate, call_public_key_generate_signed, call_public_key_encrypt_encoded,
     call_public_key_encrypt_message, call_saved_tag, call_add, call_is_good, call_extract,
     call_switching_key_generate, call_switching_key_generate_signed, call_key_switch, call_key_switch_batch,
+    call_encrypt_encoded_error_words, call_encrypt_encoded_signed_error_words, call_encrypt_message_error_words,
+    call_encrypt_message_signed_error_words, call_encrypt_message_batch_error_words,
+    call_encrypt_encoded_packed_error_words, call_encrypt_message_packed_error_words,
+    call_public_key_generate_error_words, call_public_key_generate_signed_error_words,
+    call_public_key_encrypt_encoded_error_words, call_public_key_encrypt_message_error_words,
+    call_switching_key_generate_error_words, call_switching_key_generate_signed_error_words,
 };
 
 struct answer library_answer(const struct call *call, const struct operands *o)

@@ -62,6 +62,25 @@ static int words_fail(const struct operands *o, enum field f)
     return fail;
 }
 
+/* "a word w counts as w when w <= q/2, otherwise as w - q"; of a word that is not below q nothing is asked, as 14 comes before 15. */
+int64_t counts_as(uint32_t w, uint64_t q)
+{
+    return 2 * (uint64_t)w <= q ? (int64_t)w : (int64_t)w - (int64_t)q;
+}
+
+/* Whether a word of the errors counts as a number outside -E .. E. */
+static int error_words_fail(const struct operands *o)
+{
+    int fail = 0;
+
+    for (size_t i = 0; i < len(o, ERROR_WORDS); i++) {
+        const int64_t e = counts_as(word(o, ERROR_WORDS, i), q_of(o->modulus));
+
+        fail |= e > o->bound || e < -(int64_t)o->bound;
+    }
+    return fail;
+}
+
 /* Whether a number of the slice lies outside -limit .. limit. */
 static int numbers_fail(const struct operands *o, enum field f, int64_t limit)
 {
@@ -121,14 +140,14 @@ static int differs(const struct operands *o, const uint64_t expected[FIELDS], en
     return len(o, f) != expected[f];
 }
 
-/* 14 speaks of every word that is read and of a signed key. */
+/* 14 speaks of every word that is read, the errors' too, and of a signed key. */
 static int any_word_fails(const struct call *call, const struct operands *o)
 {
     const unsigned takes = call->takes;
 
     return ((takes & WORD) && o->value >= q_of(o->modulus)) || words_fail(o, KEY) || words_fail(o, OUTPUT_KEY)
-        || words_fail(o, MASK) || (!(takes & MESSAGES) && words_fail(o, INPUT)) || ((takes & SUM) && words_fail(o, OUT))
-        || numbers_fail(o, SIGNED_KEY, (int64_t)q_of(o->modulus) - 1);
+        || words_fail(o, MASK) || words_fail(o, ERROR_WORDS) || (!(takes & MESSAGES) && words_fail(o, INPUT))
+        || ((takes & SUM) && words_fail(o, OUT)) || numbers_fail(o, SIGNED_KEY, (int64_t)q_of(o->modulus) - 1);
 }
 
 void model_lengths(const struct call *call, const struct operands *o, uint64_t expected[FIELDS])
@@ -140,6 +159,11 @@ void model_lengths(const struct call *call, const struct operands *o, uint64_t e
     if (call->fields & 1u << SIGNED_KEY) {
         expected[SIGNED_KEY] = expected[KEY];
         expected[KEY] = 0;
+    }
+    /* there are as many errors of either form */
+    if (call->fields & 1u << ERROR_WORDS) {
+        expected[ERROR_WORDS] = expected[ERRORS];
+        expected[ERRORS] = 0;
     }
 }
 
@@ -169,10 +193,10 @@ uint32_t model_applying(const struct call *call, const struct operands *o)
         {differs(o, want, KEY) || differs(o, want, SIGNED_KEY) || differs(o, want, OUTPUT_KEY), 9},
         {input_fails(call->input, o) || ((takes & SUM) && differs(o, want, OUT)), 10},
         {!(takes & SUM) && differs(o, want, OUT), 11},
-        {differs(o, want, MASK) || differs(o, want, ERRORS) || differs(o, want, COEFFICIENTS), 12},
+        {differs(o, want, MASK) || differs(o, want, ERRORS) || differs(o, want, ERROR_WORDS) || differs(o, want, COEFFICIENTS), 12},
         {(takes & BOUND) && bound_fails(o), 13},
         {any_word_fails(call, o), 14},
-        {numbers_fail(o, ERRORS, o->bound) || numbers_fail(o, COEFFICIENTS, 1), 15},
+        {numbers_fail(o, ERRORS, o->bound) || error_words_fail(o) || numbers_fail(o, COEFFICIENTS, 1), 15},
         {((takes & MESSAGE) && o->value >= o->t) || ((takes & MESSAGES) && messages_fail(o)), 16},
         {((takes & TALLY) && tally_fails(o->tally[0])) || ((takes & TALLIES) && tallies_fail(o->tally[0], o->tally[1])), 17},
     };
@@ -223,6 +247,7 @@ size_t element_size(const struct call *call, enum field field)
 
 #define F(f) (1u << (f))
 #define LENT (F(MASK) | F(ERRORS) | F(OUT))
+#define LENT_WORDS (F(MASK) | F(ERROR_WORDS) | F(OUT))
 #define ENCODED "2 6 9 11 12 13 14 15"
 #define MESSAGED "2 6 7 8 9 11 12 13 14 15 16"
 #define GENERATES "1 2 3 4 5 6 9 11 12 13 14 15"
@@ -293,6 +318,34 @@ const struct call calls[] = {
      SWITCHES},
     {"key_switch_batch", MODULUS | BASE | N | M, F(KEY) | F(INPUT) | F(OUT), CIPHERTEXTS, switch_rows_lengths,
      switch_rows_result, no_tally, SWITCHES},
+    {"encrypt_encoded_error_words", MODULUS | N | BOUND | WORD, F(KEY) | LENT_WORDS, NO_INPUT, encrypt_lengths,
+     encrypt_encoded_result, fresh_tally, ENCODED},
+    {"encrypt_encoded_signed_error_words", MODULUS | N | BOUND | WORD, F(SIGNED_KEY) | LENT_WORDS, NO_INPUT, encrypt_lengths,
+     encrypt_encoded_result, fresh_tally, ENCODED},
+    {"encrypt_message_error_words", MODULUS | N | T | BOUND | MESSAGE, F(KEY) | LENT_WORDS, NO_INPUT, encrypt_lengths,
+     encrypt_message_result, fresh_tally, MESSAGED},
+    {"encrypt_message_signed_error_words", MODULUS | N | T | BOUND | MESSAGE, F(SIGNED_KEY) | LENT_WORDS, NO_INPUT,
+     encrypt_lengths, encrypt_message_result, fresh_tally, MESSAGED},
+    {"encrypt_message_batch_error_words", MODULUS | N | T | BOUND | MESSAGES, F(KEY) | F(INPUT) | LENT_WORDS, ANY,
+     encrypt_rows_lengths, encrypt_rows_result, fresh_tally, MESSAGED},
+    {"encrypt_encoded_packed_error_words", MODULUS | N | BOUND, F(KEY) | F(INPUT) | LENT_WORDS, UP_TO_N, packed_lengths,
+     packed_result, no_tally, "2 6 9 10 11 12 13 14 15"},
+    {"encrypt_message_packed_error_words", MODULUS | N | T | BOUND | MESSAGES, F(KEY) | F(INPUT) | LENT_WORDS, UP_TO_N,
+     packed_lengths, packed_messages_result, no_tally, "2 6 7 8 9 10 11 12 13 14 15 16"},
+    {"public_key_generate_error_words", MODULUS | N | BOUND, F(KEY) | LENT_WORDS, NO_INPUT, public_key_lengths,
+     public_key_result, no_tally, ENCODED},
+    {"public_key_generate_signed_error_words", MODULUS | N | BOUND, F(SIGNED_KEY) | LENT_WORDS, NO_INPUT, public_key_lengths,
+     public_key_result, no_tally, ENCODED},
+    {"public_key_encrypt_encoded_error_words", MODULUS | N | BOUND | WORD,
+     F(KEY) | F(ERROR_WORDS) | F(COEFFICIENTS) | F(OUT), NO_INPUT, public_encrypt_lengths, public_encoded_result, no_tally,
+     ENCODED},
+    {"public_key_encrypt_message_error_words", MODULUS | N | T | BOUND | MESSAGE,
+     F(KEY) | F(ERROR_WORDS) | F(COEFFICIENTS) | F(OUT), NO_INPUT, public_encrypt_lengths, public_message_result, no_tally,
+     MESSAGED},
+    {"switching_key_generate_error_words", MODULUS | BASE | N | M | BOUND, F(KEY) | F(OUTPUT_KEY) | LENT_WORDS, NO_INPUT,
+     generate_lengths, generate_result, no_tally, GENERATES},
+    {"switching_key_generate_signed_error_words", MODULUS | BASE | N | M | BOUND, F(SIGNED_KEY) | F(OUTPUT_KEY) | LENT_WORDS,
+     NO_INPUT, generate_lengths, generate_result, no_tally, GENERATES},
 };
 
 const size_t call_count = sizeof calls / sizeof calls[0];

@@ -9,7 +9,7 @@
 #include <stdint.h>
 
 /* The slices that calls take. KEY is what a call reads as a key: a secret, a public key or a switching key. */
-enum field { KEY, SIGNED_KEY, OUTPUT_KEY, MASK, ERRORS, COEFFICIENTS, INPUT, OUT, FIELDS };
+enum field { KEY, SIGNED_KEY, OUTPUT_KEY, MASK, ERRORS, ERROR_WORDS, COEFFICIENTS, INPUT, OUT, FIELDS };
 
 struct slice {
     void *at;
@@ -91,6 +91,9 @@ struct answer model_refused(const struct call *call, uint32_t number);
 
 /* The bytes of an element of a slice. */
 size_t element_size(const struct call *call, enum field field);
+
+/* What a word of the errors counts as, of any word. */
+int64_t counts_as(uint32_t w, uint64_t q);
 
 /* For those who draw operands. */
 uint64_t q_of(uint32_t modulus);

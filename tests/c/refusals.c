@@ -175,14 +175,14 @@ int main(void)
     int good = 1;
 
     watch_calls(600);
-    printf("%-30s %9s %9s %9s %9s %9s\n", "call", "accepted", "refused", "pairs", "empty", "wrong");
+    printf("%-41s %9s %9s %9s %9s %9s\n", "call", "accepted", "refused", "pairs", "empty", "wrong");
     for (size_t i = 0; i < call_count; i++) {
         struct seen seen = {0};
 
         try_accepted(&calls[i], &seen);
         try_damages(&calls[i], &seen);
         try_empty(&calls[i], &seen);
-        printf("%-30s %9lu %9lu %9lu ", calls[i].name, seen.accepted, seen.refused, pairs(&seen));
+        printf("%-41s %9lu %9lu %9lu ", calls[i].name, seen.accepted, seen.refused, pairs(&seen));
         printf("%9lu %9lu\n", seen.empty, seen.wrong);
         good &= covered(&calls[i], &seen);
         wrong += seen.wrong;

@@ -219,6 +219,14 @@ uint64_t decode_slice_result(const struct operands *o, void *out)
 
 /* --- Encryption under a secret key --- */
 
+/* Error i as a word: a signed number, or a word that counts as one. */
+static uint32_t error(const struct operands *o, size_t i)
+{
+    const uint64_t q = q_of(o->modulus);
+
+    return residue(len(o, ERROR_WORDS) > 0 ? counts_as(word(o, ERROR_WORDS, i), q) : number(o, ERRORS, i), q);
+}
+
 /* s_i as a word; a signed number c stands for c modulo q. */
 static uint32_t secret(const struct operands *o, size_t i)
 {
@@ -260,7 +268,7 @@ static void encrypt_row(const struct operands *o, size_t row, uint32_t plaintext
 
     for (size_t i = 0; i < o->n; i++)
         out[row * (o->n + 1) + i] = a[i];
-    out[row * (o->n + 1) + o->n] = plus(plus(product(o, a), residue(number(o, ERRORS, row), q), q), plaintext, q);
+    out[row * (o->n + 1) + o->n] = plus(plus(product(o, a), error(o, row), q), plaintext, q);
 }
 
 uint64_t encrypt_encoded_result(const struct operands *o, void *out)
@@ -292,7 +300,7 @@ static void pack(const struct operands *o, int messages, uint32_t *out)
     for (size_t i = 0; i < len(o, INPUT); i++) {
         const uint32_t given = word(o, INPUT, i), p = messages ? encode(o, given) : given;
 
-        out[o->n + i] = plus(plus(rotated_product(o, a, i), residue(number(o, ERRORS, i), q), q), p, q);
+        out[o->n + i] = plus(plus(rotated_product(o, a, i), error(o, i), q), p, q);
     }
 }
 
@@ -378,7 +386,7 @@ static void public_encrypt(const struct operands *o, uint32_t plaintext, uint32_
     const uint64_t q = q_of(o->modulus);
 
     for (size_t j = 0; j <= o->n; j++) {
-        uint32_t sum = residue(number(o, ERRORS, j), q);
+        uint32_t sum = error(o, j);
 
         if (j == o->n)
             sum = plus(sum, plaintext, q);
@@ -514,12 +522,12 @@ uint64_t generate_result(const struct operands *o, void *out)
         for (size_t j = 0; j < b.L; j++) {
             const size_t at = i * b.L + j;
             const uint32_t *a = (const uint32_t *)o->slice[MASK].at + at * o->m;
-            const uint32_t error = residue(number(o, ERRORS, at), b.q), p = times(secret(o, i), weight(&b, j), b.q);
+            const uint32_t e = error(o, at), p = times(secret(o, i), weight(&b, j), b.q);
             uint32_t *entry = (uint32_t *)out + at * (o->m + 1);
 
             for (size_t x = 0; x < o->m; x++)
                 entry[x] = a[x];
-            entry[o->m] = plus(plus(output_product(o, a), error, b.q), p, b.q);
+            entry[o->m] = plus(plus(output_product(o, a), e, b.q), p, b.q);
         }
     }
     return 0;
