@@ -11,7 +11,7 @@ use mathlib.Core.List.{List}
 use Prim.Native.Nat.{ℕ, ◌*◌, ◌<◌}
 use native.Mathlib.Omega.{arith}
 use lib.IntN.{ℤ, pos, ◌+ℤ◌}
-use lib.ListN.{length, get_or, take, drop}
+use lib.ListN.{length, take, drop}
 use Rattle.std.proofs.Common.{Ok}
 use Rattle.scheme.specs.Lwe.{Key, secret_of, words, signed, encrypted, encrypted_rows, packed, row_of, public_key, public_encrypted, Errors, error_count, error_of}
 use Rattle.scheme.specs.Checks.{refusal, length_fails}

@@ -8,7 +8,7 @@ use mathlib.Core.Path.{◌≡◌, sym}
 use mathlib.Core.List.{List, ◌++◌}
 use Prim.Native.Nat.{ℕ, ◌+◌, ◌*◌, ◌/◌, ◌<◌, ◌≤◌}
 use native.Mathlib.Omega.{arith}
-use lib.IntN.{ℤ, pos, nat_abs, ◌-ℤ◌}
+use lib.IntN.{pos, nat_abs, ◌-ℤ◌}
 use lib.ListN.{length, get_or}
 use Rattle.std.proofs.Common.{Ok}
 use Rattle.scheme.specs.Modulus.{Fits}
