@@ -1,7 +1,7 @@
 // The innermost steps of packed encryption and phases. Body i uses the mask rotated right by i, its first i words negated.
 ghost use Rattle.std.specs.Prelude.{◌≡◌, ◌+◌, ◌-◌, ◌<◌, ◌≤◌, pos, ◌+ℤ◌, ◌-ℤ◌, length, drop};
 ghost use Rattle.scheme.specs.Numbers.{residue, tabulate};
-ghost use Rattle.scheme.specs.Lwe.{words, signed, packed, packed_phase};
+ghost use Rattle.scheme.specs.Lwe.{words, packed, packed_phase};
 ghost use Rattle.primus_reduce.specs.Ring.{size_of, modulo};
 ghost use Rattle.lwe_errors.specs.Errors.{errors_in};
 

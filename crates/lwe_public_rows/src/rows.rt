@@ -1,5 +1,5 @@
 // The rows of a public key, written one after the other, and added to a ciphertext or taken away from it.
-ghost use Rattle.std.specs.Prelude.{◌≡◌, ◌+◌, ◌-◌, ◌*◌, ◌<◌, pos, nat_abs, length, get_or};
+ghost use Rattle.std.specs.Prelude.{◌≡◌, ◌+◌, ◌-◌, ◌*◌, ◌<◌, pos, nat_abs, length};
 ghost use mathlib.Core.List.{zip_with};
 ghost use Rattle.scheme.specs.Numbers.{tabulate};
 ghost use Rattle.scheme.specs.Lwe.{signed as errorsOf, secret_of, public_key, public_encrypted};

@@ -1,5 +1,5 @@
 // The innermost steps, for calls that have judged what they are lent: one encryption, one row of a run, one phase.
-ghost use Rattle.std.specs.Prelude.{◌≡◌, [], ◌∷◌, ◌++◌, ◌+◌, ◌-◌, ◌*◌, ◌≤◌, pos, ◌+ℤ◌, length, get_or, take, drop};
+ghost use Rattle.std.specs.Prelude.{◌≡◌, [], ◌∷◌, ◌++◌, ◌+◌, ◌-◌, ◌*◌, ◌≤◌, pos, ◌+ℤ◌, length, take, drop};
 ghost use Rattle.scheme.specs.Lwe.{secret_of, encrypted, phase_of};
 ghost use Rattle.scheme.specs.Numbers.{residue};
 ghost use Rattle.primus_reduce.specs.Ring.{size_of};

@@ -1,7 +1,7 @@
 // Messages and phases of a batch.
 ghost use Rattle.std.specs.Prelude.{◌≡◌, false, ◌+◌, ◌*◌, ◌≤◌, pos, length, get_or};
 ghost use Rattle.scheme.specs.Numbers.{tabulate};
-ghost use Rattle.scheme.specs.Lwe.{Words, words, signed, encrypted_rows};
+ghost use Rattle.scheme.specs.Lwe.{Words, words, encrypted_rows};
 ghost use Rattle.scheme.specs.Checks.{messages_fail};
 ghost use Rattle.primus_reduce.specs.Ring.{size_of};
 ghost use Rattle.check_order.specs.Answer.{code_of};
