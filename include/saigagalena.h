@@ -76,7 +76,7 @@ static inline const char *saigagalena_refusal_text(uint32_t refusal)
         "an output has the wrong length",
         "masks, errors or coefficients have the wrong length",
         "the error limit is above 1048576 or not below the modulus",
-        "a word, or a signed number's magnitude, is not below the modulus",
+        "a word, or the magnitude of a signed key number, is not below the modulus",
         "an error is outside its limit, or a coefficient is none of -1, 0, 1",
         "a message is not below the plaintext modulus",
         "a tally, given or summed, exceeds 2^32",
@@ -302,8 +302,8 @@ saigagalena_answer saigagalena_key_switch_batch(uint32_t modulus, uint32_t base_
 /*
  * Each of these is the call of its name without _error_words, with the same operands, result, tag and refusals, but its errors are
  * words. A word w counts as w where 2 w <= q, else as w - q; q/2 itself counts as q/2. A word that is not below q is refused by 14
- * (under 2^32 there is none), one that counts as a number outside -error_limit .. error_limit by 15; over a whole call 14 comes
- * before 15. `_signed` speaks of the key, here too.
+ * (with modulus 0, which is 2^32, no word is), one that counts as a number outside -error_limit .. error_limit by 15; over a whole
+ * call 14 comes before 15. `_signed` speaks of the key, here too.
  */
 saigagalena_answer saigagalena_encrypt_encoded_error_words(uint32_t modulus, size_t n, uint32_t error_limit,
                                                            const uint32_t *secret, size_t secret_len, const uint32_t *mask,

@@ -13,7 +13,7 @@ use lib.Pow.{pow_pos, pow_mono}
 use borrow.Author.Tests.{eqb-true, lt-ltb}
 use Rattle.scheme.specs.Numbers.{tabulate, rows_of}
 use Rattle.scheme.specs.Basis.{weight}
-use Rattle.scheme.specs.Lwe.{Key, Errors, error_count, error_of, encrypted}
+use Rattle.scheme.specs.Lwe.{Key, Errors, error_count, error_at, encrypted}
 use Rattle.scheme.specs.Switch.{generated_entry, generated}
 use Rattle.scheme.specs.Checks.{refusal, length_fails}
 use Rattle.scheme.proofs.Residue.{cong_refl, cong_trans, cong_of_eq, cong_mul}
@@ -47,13 +47,13 @@ pub record Entering (p : PreparedBasis) (weights : List ℕ) (m : ℕ) (masks : 
 
 -- the entries below k are written over out₀
 abbrev pub Entered : PreparedBasis → ℕ → (ℕ → ℤ) → (ℕ → ℤ) → (ℕ → ℤ) → List ℕ → ℕ → List ℕ → List ℕ → ℕ → Type 0
-Entered p m s s' e masks count out₀ out k = Filling (generated_entry (basis_in p) m s s' e masks) (m + 1) (count) out₀ out k
+Entered p m s s' e masks count out₀ out k = Filling (generated_entry (basis_in p) m s s' e masks) (m + 1) count out₀ out k
 
 pub entered_start : {p : PreparedBasis} {weights : List ℕ} {m : ℕ} {masks : List ℕ} {count : ℕ} (s s' e : ℕ → ℤ) (out : List ℕ)
     → Entering p weights m masks count (length out) → Entered p m s s' e masks count out out 0
 unfolding generated_entry
 entered_start {p} {m = m} {masks = masks} {count = count} s s' e out g =
-    filling_start _ (m + 1) (count) out g.fits (λ k h. encrypted-row (size_of p.modulus) m (count) k masks s' _ _ g.masked h)
+    filling_start _ (m + 1) count out g.fits (λ k h. encrypted-row (size_of p.modulus) m count k masks s' _ _ g.masked h)
 
 q_pos : {p : PreparedBasis} → Ready p → 0 < size_of p.modulus
 q_pos {p} r = omega (arith, r.sound.accepted.fits, pow_pos p.log_basis)
@@ -116,12 +116,12 @@ module _ {P : LweKeySwitchingParameters} {p : PreparedBasis} {masks : List ℕ} 
         masked = g.masked ∙ ap₂ ◌*◌ (sym g.errored) (sym em);
       }
 
-  pub entered_end : (s s' : ℕ → ℤ) {out₀ out : List ℕ} {k : ℕ} → Entered p m s s' (error_of (size_of p.modulus) errors) masks (error_count errors) out₀ out k → error_count errors ≤ k
-      → out ≡ generated (basis P.basis) (n_in P) (m_in P) s s' (error_of (q_in P) errors) masks
+  pub entered_end : (s s' : ℕ → ℤ) {out₀ out : List ℕ} {k : ℕ} → Entered p m s s' (error_at (size_of p.modulus) errors) masks (error_count errors) out₀ out k → error_count errors ≤ k
+      → out ≡ generated (basis P.basis) (n_in P) (m_in P) s s' (error_at (q_in P) errors) masks
   unfolding generated
   entered_end s s' f h =
-      filling_end f h ∙ ap (λ k. rows_of k (generated_entry (basis_in p) m s s' (error_of (size_of p.modulus) errors) masks)) g.errored
-      ∙ ap₂ (λ x m. rows_of (n_in P * levels_in P) (generated_entry (basis_in x) m s s' (error_of (size_of x.modulus) errors) masks)) r.1 em
+      filling_end f h ∙ ap (λ k. rows_of k (generated_entry (basis_in p) m s s' (error_at (size_of p.modulus) errors) masks)) g.errored
+      ∙ ap₂ (λ x m. rows_of (n_in P * levels_in P) (generated_entry (basis_in x) m s s' (error_at (size_of x.modulus) errors) masks)) r.1 em
 
 -- no number applies
 pub record Unrefused (P : LweKeySwitchingParameters) (E : ℕ) (key : Key) (s' masks : List ℕ) (errors : Errors) (room : ℕ) : Type 0 where

@@ -1,6 +1,6 @@
 -- What the generation of a key is judged by and writes, and what writing its entries asks.
 use Rattle.std.specs.Prelude.{◌≡◌, List, [], ◌∷◌, ◌++◌, ℕ, ◌*◌, length}
-use Rattle.scheme.specs.Lwe.{Key, key_length, secret_of, words, Errors, error_count, error_values, error_of}
+use Rattle.scheme.specs.Lwe.{Key, key_length, secret_of, words, Errors, error_count, error_values, error_at}
 use Rattle.scheme.specs.Switch.{generated}
 use Rattle.scheme.specs.Checks.{Check, row, refusal, length_fails}
 use Rattle.scheme.specs.Checks.{error_limit_fails, words_fail, key_fails, error_words_fail, errors_fail}
@@ -28,7 +28,7 @@ generate_rows P E key s' masks errors room =
 -- "Entry (i, j) encrypts sᵢ × weight j under the output key. Masks and errors are lent in entry order"
 abbrev pub generated_for : LweKeySwitchingParameters → Key → List ℕ → Errors → List ℕ → List ℕ
 generated_for P key s' errors masks =
-    generated (basis P.basis) (n_in P) (m_in P) (secret_of key) (words s') (error_of (q_in P) errors) masks
+    generated (basis P.basis) (n_in P) (m_in P) (secret_of key) (words s') (error_at (q_in P) errors) masks
 
 -- what writing the entries asks
 pub record Generable (P : LweKeySwitchingParameters) (masks : List ℕ) (errors : Errors) (room : ℕ) : Type 0 where

@@ -32,7 +32,8 @@ pub fn encrypt_refusal(
     s.lent = checks::masks_or_errors_differ(masks.len(), errors.count(), count, n);
     s.judge()?;
     let mut v = Values::default();
-    v.word = checks::both_refused(params.modulus, secret, masks) | errors.refused(params.modulus);
+    v.word = checks::both_refused(params.modulus, secret, masks)
+        | errors.words_refused(params.modulus);
     v.error = errors.outside(params.error_limit, params.modulus);
     v.message = checks::messages_refused(params.plaintext_modulus, messages);
     v.judge()

@@ -13,4 +13,4 @@ errors_of (Signed es) = S.ErrorNumbers es.now
 
 -- error i, as the signed number that it counts as
 abbrev pub errors_in : Modulus → LweErrorsRef → ℕ → ℤ
-errors_in m es = S.error_of (size_of m) (errors_of es)
+errors_in m es = S.error_at (size_of m) (errors_of es)

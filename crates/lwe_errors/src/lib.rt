@@ -11,6 +11,7 @@ ghost use Rattle.lwe_errors.specs.Errors.{errors_of, errors_in};
 use primus_reduce::{Factor, Modulus};
 
 // A word w counts as w where 2w ≤ q, else as w − q.
+// Stays: a type beside `LweSecretKeyRef`, whose words stand for themselves and whose signed numbers are judged by q: one type would lend a key for errors.
 #[derive(Clone, Copy)]
 pub enum LweErrorsRef<'a> {
     Encoded(&'a [u32]),
@@ -32,7 +33,7 @@ fn signed_value(word: u32, modulus: Modulus) -> i64
 }
 
 // Whether what some word counts as has a magnitude that is not below the limit; no early exit, as in checks.
-// Stays: a loop beside that of checks, which needs no modulus: one for both would be handed what makes a number of an element.
+// Stays: a loop beside the one of checks, whose elements are numbers already.
 fn any_outside(words: &[u32], limit: u64, modulus: Modulus) -> bool
     ensures { result ≡ magnitudes_fail limit (map (nearest (size_of modulus)) words.now) }
 {
@@ -55,7 +56,7 @@ impl<'a> LweErrorsRef<'a> {
     }
 
     // 14: a word is not below q.
-    pub fn refused(self, modulus: Modulus) -> bool
+    pub fn words_refused(self, modulus: Modulus) -> bool
         ensures { result ≡ error_words_fail (size_of modulus) (errors_of self.entry) }
     {
         match self {

@@ -59,7 +59,7 @@ pub fn packed_refusal(
     s.judge()?;
     let mut v = Values::default();
     v.word = words_refused(params.modulus, secret, mask, plaintexts)
-        | errors.refused(params.modulus);
+        | errors.words_refused(params.modulus);
     v.error = errors.outside(params.error_limit, params.modulus);
     v.judge()
 }

@@ -2,7 +2,7 @@
 ghost use Rattle.std.specs.Prelude.{◌≡◌, ◌+◌, ◌-◌, ◌*◌, ◌<◌, pos, nat_abs, length};
 ghost use mathlib.Core.List.{zip_with};
 ghost use Rattle.scheme.specs.Numbers.{tabulate};
-ghost use Rattle.scheme.specs.Lwe.{signed as errorsOf, secret_of, public_key, public_encrypted};
+ghost use Rattle.scheme.specs.Lwe.{signed, secret_of, public_key, public_encrypted};
 ghost use Rattle.scheme.specs.Switch.{Below};
 ghost use Rattle.primus_reduce.specs.Ring.{size_of};
 ghost use Rattle.lwe_secret_key.specs.Key.{key_of};
@@ -81,7 +81,7 @@ pub fn write_public(
 )
     requires { Public (length coefficients.now) key.now coefficients.now (length out.old) }
     ensures { out.new ≡ public_encrypted (size_of ring.modulus) (length coefficients.now)
-        key.now (errors_in ring.modulus errors.entry) (pos plaintext) (errorsOf coefficients.now) }
+        key.now (errors_in ring.modulus errors.entry) (pos plaintext) (signed coefficients.now) }
 {
     let n = coefficients.len();
     start(out, errors, plaintext, ring);

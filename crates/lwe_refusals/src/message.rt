@@ -29,7 +29,7 @@ pub fn message_refusal(
     s.lent = checks::lengths_differ(mask.len(), params.dimension.get(), errors.count(), 1);
     s.judge()?;
     let mut v = Values::default();
-    v.word = key.refused_with(params.modulus, mask) | errors.refused(params.modulus);
+    v.word = key.refused_with(params.modulus, mask) | errors.words_refused(params.modulus);
     v.error = errors.outside(params.error_limit, params.modulus);
     v.message = checks::message_refused(params.plaintext_modulus, message);
     v.judge()

@@ -31,7 +31,7 @@ pub fn body(sum: u32, error: u32, plaintext: u32, ring: Ring) -> u32
 }
 
 // The mask, and the body ⟨a, s⟩ + e + p with lent error i. A function, no method: a user may call nothing that has a `requires`.
-// Stays: errors and i, here and for a row: a residue handed in would be made by each caller, with the law of `residue_at`.
+// Stays: errors and i, here and for a row: a residue handed in would be made by each caller, with the law of its residue.
 #[tactic(auto, using(crate::proofs::Laws::encrypted_is))]
 pub fn encrypt_to(
     key: LweSecretKeyRef,

@@ -1,6 +1,6 @@
 -- What each call promises.
 use Rattle.std.specs.Prelude.{List, ◌≡◌, ℕ, ℤ, pos, length, get_or, Result}
-use Rattle.scheme.specs.Lwe.{Key, secret_of, encrypted, phase_of, Errors, error_of}
+use Rattle.scheme.specs.Lwe.{Key, secret_of, encrypted, phase_of, Errors, error_at}
 use Rattle.scheme.specs.Codec.{decode}
 use Rattle.scheme.specs.Tally.{Fresh}
 use Rattle.primus_reduce.specs.Ring.{size_of}
@@ -23,7 +23,7 @@ pub record Encrypts (P : LweEncryptionParameters) (key : Key) (a : List ℕ) (es
     (given : Result LweTag Refusal) (after : List ℕ) : Type 0 where
   pub writes :
       WritesTagged (encrypt_rows P key a es p (length before)) (tag_from (Fresh P.error_limit))
-      (encrypted (size_of P.modulus) P.dimension.0 a (secret_of key) (error_of (size_of P.modulus) es 0) (pos p))
+      (encrypted (size_of P.modulus) P.dimension.0 a (secret_of key) (error_at (size_of P.modulus) es 0) (pos p))
       before given after
 
 -- "Phase = b − ⟨a, s⟩"
@@ -44,7 +44,7 @@ pub record EncryptsMessage (P : LweParameters) (g : PlaintextEmbedding) (key : K
     (before : List ℕ) (given : Result LweTag Refusal) (after : List ℕ) : Type 0 where
   pub writes :
       WritesTagged (message_rows P key a es x (length before)) (tag_from (Fresh P.error_limit))
-      (encrypted (size_of P.modulus) P.dimension.0 a (secret_of key) (error_of (size_of P.modulus) es 0)
+      (encrypted (size_of P.modulus) P.dimension.0 a (secret_of key) (error_at (size_of P.modulus) es 0)
       (encoded g P x))
       before given after
 

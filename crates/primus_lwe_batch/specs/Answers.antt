@@ -1,7 +1,7 @@
 -- What each call on a batch promises. Masks and errors are lent in order of the rows.
 use Rattle.std.specs.Prelude.{List, ℕ, ◌+◌, ◌/◌, length, Result}
 use Rattle.scheme.specs.Numbers.{tabulate}
-use Rattle.scheme.specs.Lwe.{Key, secret_of, encrypted_rows, phase_of, row_of, Errors, error_of}
+use Rattle.scheme.specs.Lwe.{Key, secret_of, encrypted_rows, phase_of, row_of, Errors, error_at}
 use Rattle.scheme.specs.Codec.{decode}
 use Rattle.scheme.specs.Checks.{Writes}
 use Rattle.primus_reduce.specs.Ring.{size_of}
@@ -22,7 +22,7 @@ pub record EncryptsBatch (P : LweParameters) (g : PlaintextEmbedding) (key : Key
   pub writes :
       WritesTagged (encrypt_batch_rows P key masks es xs (length before)) (tag_from (Fresh P.error_limit))
       (encrypted_rows (size_of P.modulus) P.dimension.0 (length xs) masks (secret_of key)
-      (error_of (size_of P.modulus) es) (encodings g P xs))
+      (error_at (size_of P.modulus) es) (encodings g P xs))
       before given after
 
 -- the phase of ciphertext i

@@ -1,7 +1,7 @@
 -- What each call promises.
 use Rattle.std.specs.Prelude.{List, ℕ, ◌-◌, length, Result}
 use Rattle.scheme.specs.Numbers.{tabulate}
-use Rattle.scheme.specs.Lwe.{words, packed, packed_phase, Errors, error_of}
+use Rattle.scheme.specs.Lwe.{words, packed, packed_phase, Errors, error_at}
 use Rattle.scheme.specs.Codec.{decode}
 use Rattle.scheme.specs.Tally.{Packed}
 use Rattle.scheme.specs.Checks.{Writes}
@@ -24,7 +24,7 @@ pub record EncryptsPacked (P : LweEncryptionParameters) (s a : List ℕ) (es : E
     (answer : Result LweTag Refusal) (after : List ℕ) : Type 0 where
   pub writes :
       WritesTagged (packed_rows P s a es ps (length before)) (tag_from Packed)
-      (packed (size_of P.modulus) P.dimension.0 (length ps) a (words s) (error_of (size_of P.modulus) es) (words ps))
+      (packed (size_of P.modulus) P.dimension.0 (length ps) a (words s) (error_at (size_of P.modulus) es) (words ps))
       before answer after
 
 -- each body holds the plaintext of a message
@@ -32,7 +32,7 @@ pub record EncryptsPackedMessages (P : LweParameters) (g : PlaintextEmbedding) (
     (xs before : List ℕ) (answer : Result LweTag Refusal) (after : List ℕ) : Type 0 where
   pub writes :
       WritesTagged (packed_message_rows P s a es xs (length before)) (tag_from Packed)
-      (packed (size_of P.modulus) P.dimension.0 (length xs) a (words s) (error_of (size_of P.modulus) es)
+      (packed (size_of P.modulus) P.dimension.0 (length xs) a (words s) (error_at (size_of P.modulus) es)
       (encodings g P xs))
       before answer after
 

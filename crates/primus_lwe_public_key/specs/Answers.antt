@@ -1,7 +1,7 @@
 -- What each call is judged by, and what it promises.
 use Rattle.std.specs.Prelude.{List, [], ◌∷◌, ◌++◌, ℕ, ◌+◌, ◌*◌, ℤ, pos, length, Result}
 use Rattle.scheme.specs.Lwe.{Key, secret_of, key_length, signed, public_key, public_encrypted}
-use Rattle.scheme.specs.Lwe.{Errors, error_count, error_values, error_of}
+use Rattle.scheme.specs.Lwe.{Errors, error_count, error_values, error_at}
 use Rattle.scheme.specs.Checks.{Check, row, Writes, length_fails, word_fails, words_fail, key_fails}
 use Rattle.scheme.specs.Checks.{error_words_fail, errors_fail, coefficients_fail, message_fails}
 use Rattle.primus_reduce.specs.Ring.{size_of}
@@ -34,7 +34,7 @@ pub record GeneratesPublicKey (P : LweEncryptionParameters) (key : Key) (masks :
     (before : List ℕ) (r : ℕ) (after : List ℕ) : Type 0 where
   pub writes :
       Writes (generate_rows P key masks es (length before))
-      (public_key (size_of P.modulus) P.dimension.0 masks (secret_of key) (error_of (size_of P.modulus) es))
+      (public_key (size_of P.modulus) P.dimension.0 masks (secret_of key) (error_at (size_of P.modulus) es))
       before r after
 
 -- what every encryption is lent, for dimension n, size q and limit E: the key, n + 1 errors, n coefficients, an output
@@ -63,7 +63,7 @@ pub record EncryptsPublic (P : LweEncryptionParameters) (key : List ℕ) (es : E
     (before : List ℕ) (answer : Result LweTag Refusal) (after : List ℕ) : Type 0 where
   pub writes :
       WritesTagged (public_rows P key es rs p (length before)) (tag_from PublicKey)
-      (public_encrypted (size_of P.modulus) P.dimension.0 key (error_of (size_of P.modulus) es) (pos p) (signed rs))
+      (public_encrypted (size_of P.modulus) P.dimension.0 key (error_at (size_of P.modulus) es) (pos p) (signed rs))
       before answer after
 
 -- an encryption of the message x below t
@@ -79,6 +79,6 @@ pub record EncryptsPublicMessage (P : LweParameters) (g : PlaintextEmbedding) (k
     (x : ℕ) (before : List ℕ) (answer : Result LweTag Refusal) (after : List ℕ) : Type 0 where
   pub writes :
       WritesTagged (public_message_rows P key es rs x (length before)) (tag_from PublicKey)
-      (public_encrypted (size_of P.modulus) P.dimension.0 key (error_of (size_of P.modulus) es) (encoded g P x)
+      (public_encrypted (size_of P.modulus) P.dimension.0 key (error_at (size_of P.modulus) es) (encoded g P x)
       (signed rs))
       before answer after

@@ -41,7 +41,7 @@ fn generate_refusal(
     s.lent = checks::masks_or_errors_differ(masks.len(), errors.count(), n, n);
     s.judge()?;
     let mut v = Values::default();
-    v.word = secret.refused_with(params.modulus, masks) | errors.refused(params.modulus);
+    v.word = secret.refused_with(params.modulus, masks) | errors.words_refused(params.modulus);
     v.error = errors.outside(params.error_limit, params.modulus);
     v.judge()
 }
@@ -94,7 +94,7 @@ fn public_refusal(
     s.lent = lent_differs(errors.count(), coefficients.len(), dimension);
     s.judge()?;
     let mut v = Values::default();
-    v.word = word_refused(params.modulus, key, plaintext) | errors.refused(params.modulus);
+    v.word = word_refused(params.modulus, key, plaintext) | errors.words_refused(params.modulus);
     v.error = lent_refused(params.error_limit, params.modulus, errors, coefficients);
     v.judge()
 }
@@ -119,7 +119,7 @@ fn public_message_refusal(
     s.lent = lent_differs(errors.count(), coefficients.len(), dimension);
     s.judge()?;
     let mut v = Values::default();
-    v.word = checks::words_refused(params.modulus, key) | errors.refused(params.modulus);
+    v.word = checks::words_refused(params.modulus, key) | errors.words_refused(params.modulus);
     v.error = lent_refused(params.error_limit, params.modulus, errors, coefficients);
     v.message = checks::message_refused(params.plaintext_modulus, message);
     v.judge()

@@ -85,7 +85,7 @@ pub extern "C" fn saigagalena_encrypt_encoded_packed_error_words(
     )
 }
 
-// The two calls below, as above.
+// The two calls below, whose names say which form of the errors they take.
 fn encrypt_message_packed(
     modulus: u32,
     n: usize,

@@ -88,7 +88,7 @@ pub extern "C" fn saigagalena_public_key_encrypt_encoded_error_words(
     )
 }
 
-// The two calls below, as above.
+// The two calls below, whose names say which form of the errors they take.
 fn public_key_encrypt_message(
     modulus: u32,
     n: usize,

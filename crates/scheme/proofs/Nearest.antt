@@ -3,7 +3,7 @@
 --     nearest-least      of w and w − q, `nearest` is no further from zero than either
 --     nearest_centred    of a word it lies in (−q/2, q/2],
 --     nearest_only       and is the only number there that agrees with the word modulo q
---     error_at           error i of a run of words is its word's,
+--     error_at_word           error i of a run of words is its word's,
 --     error_residue      and has that word's residue; error_length: as many numbers as errors
 -- Assumes nothing.
 use mathlib.Core.Path.{◌≡◌, refl, sym}
@@ -86,13 +86,13 @@ unfolding nearest
 nought q = rw (le-leb (2 * 0) q (omega arith))
 
 -- past the end both are 0
-pub error_at : (q : ℕ) (ws : List ℕ) (i : ℕ) → signed (error_values q (ErrorWords ws)) i ≡ nearest q (get_or ws i 0)
-error_at q [] i = sym (nought q)
-error_at q (w ∷ ws) zero = refl
-error_at q (w ∷ ws) (suc i) = error_at q ws i
+pub error_at_word : (q : ℕ) (ws : List ℕ) (i : ℕ) → signed (error_values q (ErrorWords ws)) i ≡ nearest q (get_or ws i 0)
+error_at_word q [] i = sym (nought q)
+error_at_word q (w ∷ ws) zero = refl
+error_at_word q (w ∷ ws) (suc i) = error_at_word q ws i
 
 pub error_residue : (q : ℕ) → 0 < q → (ws : List ℕ) (i : ℕ) → residue (words ws i) q ≡ residue (signed (error_values q (ErrorWords ws)) i) q
-error_residue q h ws i = rw (error_at q ws i) (residue_cong h (nearest_cong q (get_or ws i 0)))
+error_residue q h ws i = rw (error_at_word q ws i) (residue_cong h (nearest_cong q (get_or ws i 0)))
 
 pub error_length : (q : ℕ) (es : Errors) → length (error_values q es) ≡ error_count es
 error_length q (ErrorWords ws) = length-map ws (nearest q)

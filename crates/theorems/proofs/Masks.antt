@@ -5,7 +5,7 @@
 --     demand_3_of_calls    the outputs are equal in every word for every choice exactly when bodies and readings are
 -- Assumes nothing.
 use mathlib.Core.Path.{◌≡◌, refl, sym, ap₂, ◌∙◌}
-use mathlib.Core.Bool.{◌||◌}
+use mathlib.Core.Bool.{Bool, false, ◌||◌}
 use mathlib.Core.Logic.{◌↔◌}
 use mathlib.Core.List.{List, [], ◌∷◌, ◌++◌}
 use Prim.Native.Nat.{ℕ, ◌+◌, ◌*◌, ◌/◌, ◌<◌}
@@ -16,7 +16,7 @@ use lib.ListN.{length}
 use Rattle.std.proofs.Common.{Ok}
 use Rattle.scheme.specs.Modulus.{Fits}
 use Rattle.scheme.specs.Basis.{Basis}
-use Rattle.scheme.specs.Lwe.{Key, secret_of, key_length, words, row_of, Errors, error_count, error_values, error_of}
+use Rattle.scheme.specs.Lwe.{Key, secret_of, key_length, words, row_of, Errors, error_count, error_values, error_at}
 use Rattle.scheme.specs.Switch.{Below, switched_batch, generated, OutputsAgree, ReadingsAgree, Demand3}
 use Rattle.scheme.specs.Checks.{row, refusal, key_fails, length_fails, words_fail, error_limit_fails, error_words_fail, errors_fail}
 use Rattle.scheme.proofs.Checks.{words_ok}
@@ -40,6 +40,10 @@ use Rattle.theorems.proofs.Calls.{wrote, written, words_fit, length_fit}
 use Rattle.theorems.proofs.Inputs.{inputs-accepted}
 use Rattle.theorems.proofs.Switching.{basis-accepted, lent_masks}
 
+-- of 14 over errors, both keys and masks: the masks
+masks_of : (es key s masks : Bool) → (((masks || s) || key) || es) ≡ false → masks ≡ false
+masks_of es key s masks e = (neither s masks (neither key (masks || s) (neither es ((masks || s) || key) e).1).1).1
+
 pub generate_any_masks : (P : LweKeySwitchingParameters) (E : ℕ) (key : Key) (s' masks others : List ℕ) (errors : Errors) (room : ℕ)
     → length others ≡ n_in P * levels_in P * m_in P → Below (q_in P) others
     → refusal (generate_rows P E key s' masks errors room) ≡ 0 → refusal (generate_rows P E key s' others errors room) ≡ 0
@@ -47,7 +51,7 @@ generate_any_masks P E key s' masks others errors room l w e =
     let q = q_in P in
     let no = passed (generate_rows P E key s' masks errors room) e in
     let lent = neither (length_fails (length masks) (n_in P * levels_in P * m_in P)) (length_fails (error_count errors) (n_in P * levels_in P)) (no 12 tt) in
-    let below = neither (words_fail q s') (words_fail q masks) (neither (key_fails q key) (words_fail q masks || words_fail q s') (neither (error_words_fail q errors) ((words_fail q masks || words_fail q s') || key_fails q key) (no 14 tt)).1).1 in
+    let below = masks_of (error_words_fail q errors) (key_fails q key) (words_fail q s') (words_fail q masks) (no 14 tt) in
     ap₂ (λ long foreign.
     refusal (parameter_rows P
     ++ row (length_fails (key_length key) (n_in P)) 9
@@ -62,7 +66,7 @@ generate_any_masks P E key s' masks others errors room l w e =
     ∷ row foreign 14
     ∷ row (errors_fail E (error_values (q_in P) errors)) 15
     ∷ []))
-    (length_fit (length others) _ l ∙ sym lent.0) (words_fit q others w ∙ sym below.1)
+    (length_fit (length others) _ l ∙ sym lent.0) (words_fit q others w ∙ sym below)
     ∙ e
 
 module _ (P : LweKeySwitchingParameters) (word : Fits 32 (meant P.basis.modulus)) where
@@ -96,7 +100,7 @@ module _ (P : LweKeySwitchingParameters) (word : Fits 32 (meant P.basis.modulus)
   module _ (E : ℕ) (key : Key) (s' : List ℕ) (errors : Errors) {one over k keyX X overX x keyY Y overY y : List ℕ}
       (generates : Generates P E key s' one errors over 0 k) (switches_x : SwitchesBatch P keyX X overX (Ok (tag_from Switched)) x) (switches_y : SwitchesBatch P keyY Y overY (Ok (tag_from Switched)) y) where
     abbrev made : List ℕ → List ℕ
-    made masks = generated b (n_in P) (m_in P) (secret_of key) (words s') (error_of (q_in P) errors) masks
+    made masks = generated b (n_in P) (m_in P) (secret_of key) (words s') (error_at (q_in P) errors) masks
 
     pub every_choice : (masks : List ℕ) → length masks ≡ n_in P * levels_in P * m_in P → Below (q_in P) masks → Choice P E key s' errors over X overX Y overY masks
     every_choice masks l w =
@@ -105,26 +109,26 @@ module _ (P : LweKeySwitchingParameters) (word : Fits 32 (meant P.basis.modulus)
           x = switched_batch b (n_in P) (m_in P) (made masks) (count X) X;
           y = switched_batch b (n_in P) (m_in P) (made masks) (count Y) Y;
           generates = record { writes = done (generate_any_masks P E key s' one masks errors (length over) l w (wrote generates.writes).0) refl };
-          switches_x = record { writes = W.done (sym (batch_any_masks (secret_of key) (words s') (error_of (q_in P) errors) masks keyX X (length overX) l w (written switches_x.writes).0)) refl refl };
-          switches_y = record { writes = W.done (sym (batch_any_masks (secret_of key) (words s') (error_of (q_in P) errors) masks keyY Y (length overY) l w (written switches_y.writes).0)) refl refl };
+          switches_x = record { writes = W.done (sym (batch_any_masks (secret_of key) (words s') (error_at (q_in P) errors) masks keyX X (length overX) l w (written switches_x.writes).0)) refl refl };
+          switches_y = record { writes = W.done (sym (batch_any_masks (secret_of key) (words s') (error_at (q_in P) errors) masks keyY Y (length overY) l w (written switches_y.writes).0)) refl refl };
         }
 
     module _ (t u : ℕ) (ht : t < length X / (n_in P + 1)) (hu : u < length Y / (n_in P + 1)) where
-      by_definition : Demand3 b (n_in P) (m_in P) (secret_of key) (words s') (error_of (q_in P) errors) (count X) X t (count Y) Y u
+      by_definition : Demand3 b (n_in P) (m_in P) (secret_of key) (words s') (error_at (q_in P) errors) (count X) X t (count Y) Y u
       by_definition =
-          demand_3_accepted (secret_of key) (words s') (error_of (q_in P) errors) keyX X (length overX) keyY Y (length overY) (written switches_x.writes).0 (written switches_y.writes).0 t u ht hu
+          demand_3_accepted (secret_of key) (words s') (error_at (q_in P) errors) keyX X (length overX) keyY Y (length overY) (written switches_x.writes).0 (written switches_y.writes).0 t u ht hu
 
-      there : EqualOutputs P E key s' errors over X overX t Y overY u → OutputsAgree b (n_in P) (m_in P) (secret_of key) (words s') (error_of (q_in P) errors) (count X) X t (count Y) Y u
+      there : EqualOutputs P E key s' errors over X overX t Y overY u → OutputsAgree b (n_in P) (m_in P) (secret_of key) (words s') (error_at (q_in P) errors) (count X) X t (count Y) Y u
       unfolding OutputsAgree every_choice
       there f masks l w = let o = every_choice masks l w in f masks o.k o.x o.y o.generates o.switches_x o.switches_y
 
-      back : OutputsAgree b (n_in P) (m_in P) (secret_of key) (words s') (error_of (q_in P) errors) (count X) X t (count Y) Y u → EqualOutputs P E key s' errors over X overX t Y overY u
+      back : OutputsAgree b (n_in P) (m_in P) (secret_of key) (words s') (error_at (q_in P) errors) (count X) X t (count Y) Y u → EqualOutputs P E key s' errors over X overX t Y overY u
       unfolding OutputsAgree
       back f masks k x y g sx sy c h =
           let made-it = wrote g.writes in
-          let masked = (neither (key_fails (q_in P) key) (words_fail (q_in P) masks || words_fail (q_in P) s') (neither (error_words_fail (q_in P) errors) ((words_fail (q_in P) masks || words_fail (q_in P) s') || key_fails (q_in P) key) (passed (generate_rows P E key s' masks errors (length over)) made-it.0 14 tt)).1).1 in
+          let masked = masks_of (error_words_fail (q_in P) errors) (key_fails (q_in P) key) (words_fail (q_in P) s') (words_fail (q_in P) masks) (passed (generate_rows P E key s' masks errors (length over)) made-it.0 14 tt) in
           rw ((written sx.writes).1, (written sy.writes).1, made-it.1)
-          (f masks (lent_masks P word E key s' masks errors (length over) made-it.0) (words_ok (q_in P) masks (neither (words_fail (q_in P) s') (words_fail (q_in P) masks) masked).1) c h)
+          (f masks (lent_masks P word E key s' masks errors (length over) made-it.0) (words_ok (q_in P) masks masked) c h)
 
       pub demand_3_of_calls : EqualOutputs P E key s' errors over X overX t Y overY u ↔ ReadingsAgree (basis P.basis) (n_in P) (row_of (n_in P) X t) (row_of (n_in P) Y u)
       demand_3_of_calls = ((λ f. by_definition.0 (there f)), (λ r. back (by_definition.1 r)))

@@ -17,7 +17,7 @@ use borrow.Author.Tests.{eq-eqb, ne_eqb, ltb-true}
 use Rattle.std.proofs.Common.{Result, Ok}
 use Rattle.check_order.specs.declared.refusal.Refusal.{Refusal}
 use Rattle.scheme.specs.Numbers.{residue, tabulate}
-use Rattle.scheme.specs.Lwe.{Key, secret_of, encrypted, encrypted_rows, phase_of, row_of, Errors, error_count, error_values, error_of}
+use Rattle.scheme.specs.Lwe.{Key, secret_of, encrypted, encrypted_rows, phase_of, row_of, Errors, error_count, error_values, error_at}
 use Rattle.scheme.specs.Codec.{decode}
 use Rattle.scheme.specs.Switch.{Below}
 use Rattle.scheme.specs.Checks.{refusal, first_in, length_fails, word_fails, batch_fails, words_fail, key_fails, error_words_fail, error_limit_fails}
@@ -82,7 +82,7 @@ others es key masks e = neither key masks (neither es (masks || key) e).1
 
 module _ (P : LweEncryptionParameters) (key : Key) (a : List ℕ) (es : Errors) (p : ℕ) where
   abbrev ciphertext : List ℕ
-  ciphertext = encrypted (size_of P.modulus) P.dimension.0 a (secret_of key) (error_of (size_of P.modulus) es 0) (pos p)
+  ciphertext = encrypted (size_of P.modulus) P.dimension.0 a (secret_of key) (error_at (size_of P.modulus) es 0) (pos p)
 
   -- no number applies to what was encrypted
   pub phase-accepted : (room : ℕ) → refusal (encrypt_rows P key a es p room) ≡ 0 → refusal (phase_rows (phases_of P) key ciphertext) ≡ 0
@@ -91,11 +91,11 @@ module _ (P : LweEncryptionParameters) (key : Key) (a : List ℕ) (es : Errors) 
       let q = size_of P.modulus in
       let no = passed (encrypt_rows P key a es p room) e in
       let (keyed, masked) = neither (key_fails q key) (words_fail q a) (neither (word_fails q p) (words_fail q a || key_fails q key) (neither (error_words_fail q es) ((words_fail q a || key_fails q key) || word_fails q p) (no 14 tt)).1).1 in
-      let f = fresh_fits q P.dimension.0 a (secret_of key) (error_of (size_of P.modulus) es 0) (pos p) (positive P.modulus (no 2 tt)) (mask_ok (length a) (error_count es) P.dimension.0 (lengths (encrypt_rows P key a es p room) (sym e))) masked in
+      let f = fresh_fits q P.dimension.0 a (secret_of key) (error_at (size_of P.modulus) es 0) (pos p) (positive P.modulus (no 2 tt)) (mask_ok (length a) (error_count es) P.dimension.0 (lengths (encrypt_rows P key a es p room) (sym e))) masked in
       rw (no 2 tt, no 6 tt, no 9 tt, f.0, keyed, f.1)
 
   pub phase-answered : {before after : List ℕ} {tag : LweTag} {answer : Result ℕ Refusal} → Encrypts P key a es p before (Ok tag) after → TakesPhase (phases_of P) key after answer
-      → answer ≡ Ok (residue (pos p +ℤ error_of (size_of P.modulus) es 0) (size_of P.modulus))
+      → answer ≡ Ok (residue (pos p +ℤ error_at (size_of P.modulus) es 0) (size_of P.modulus))
   phase-answered {before} {after} c d =
       let w = written c.writes in
       d.is
@@ -104,7 +104,7 @@ module _ (P : LweEncryptionParameters) (key : Key) (a : List ℕ) (es : Errors) 
 
 module _ (P : LweParameters) (g : PlaintextEmbedding) (key : Key) (a : List ℕ) (es : Errors) (x : ℕ) where
   abbrev ciphertext_of : List ℕ
-  ciphertext_of = encrypted (size_of P.modulus) P.dimension.0 a (secret_of key) (error_of (size_of P.modulus) es 0) (encoded g P x)
+  ciphertext_of = encrypted (size_of P.modulus) P.dimension.0 a (secret_of key) (error_at (size_of P.modulus) es 0) (encoded g P x)
 
   pub decrypt_accepted : (room : ℕ) → refusal (message_rows P key a es x room) ≡ 0 → refusal (decrypt_rows (decryption_of P) key ciphertext_of) ≡ 0
   unfolding refusal first_in
@@ -112,11 +112,11 @@ module _ (P : LweParameters) (g : PlaintextEmbedding) (key : Key) (a : List ℕ)
       let q = size_of P.modulus in
       let no = passed (message_rows P key a es x room) e in
       let (keyed, masked) = others (error_words_fail q es) (key_fails q key) (words_fail q a) (no 14 tt) in
-      let f = fresh_fits q P.dimension.0 a (secret_of key) (error_of (size_of P.modulus) es 0) (encoded g P x) (positive P.modulus (no 2 tt)) (mask_ok (length a) (error_count es) P.dimension.0 (lengths (message_rows P key a es x room) (sym e))) masked in
+      let f = fresh_fits q P.dimension.0 a (secret_of key) (error_at (size_of P.modulus) es 0) (encoded g P x) (positive P.modulus (no 2 tt)) (mask_ok (length a) (error_count es) P.dimension.0 (lengths (message_rows P key a es x room) (sym e))) masked in
       rw (no 2 tt, no 6 tt, no 7 tt, no 8 tt, no 9 tt, f.0, keyed, f.1)
 
   -- an accepted error is within ±E
-  within : (room : ℕ) → refusal (message_rows P key a es x room) ≡ 0 → nat_abs (error_of (size_of P.modulus) es 0) ≤ P.error_limit
+  within : (room : ℕ) → refusal (message_rows P key a es x room) ≡ 0 → nat_abs (error_at (size_of P.modulus) es 0) ≤ P.error_limit
   within room e =
       let no = passed (message_rows P key a es x room) e in
       let one : error_count es ≡ 1 = length_ok _ _ (neither (length_fails (length a) P.dimension.0) (length_fails (error_count es) 1) (no 12 tt)).1 in
@@ -128,7 +128,7 @@ module _ (P : LweParameters) (g : PlaintextEmbedding) (key : Key) (a : List ℕ)
   decoded-accepted room e h =
       let no = passed (message_rows P key a es x room) e in
       opens_fresh (size_of P.modulus) (positive P.modulus (no 2 tt)) P.dimension.0 a (secret_of key) (mask_ok (length a) (error_count es) P.dimension.0 (lengths (message_rows P key a es x room) (sym e))) (meant_embedding g) P.plaintext_modulus x P.error_limit
-      (error_of (size_of P.modulus) es 0) (message_ok _ x (no 16 tt)) h (within room e)
+      (error_at (size_of P.modulus) es 0) (message_ok _ x (no 16 tt)) h (within room e)
 
   pub opens : 2 * P.plaintext_modulus * P.error_limit + P.plaintext_modulus < size_of P.modulus
       → {before after : List ℕ} {tag : LweTag} {answer : Result ℕ Refusal} → EncryptsMessage P g key a es x before (Ok tag) after → Decrypts (decryption_of P) key after answer → answer ≡ Ok x
@@ -149,7 +149,7 @@ module _ (P : LweParameters) (g : PlaintextEmbedding) (key : Key) (a : List ℕ)
 
 module _ (P : LweParameters) (g : PlaintextEmbedding) (key : Key) (masks : List ℕ) (es : Errors) (xs : List ℕ) where
   abbrev ciphertexts : List ℕ
-  ciphertexts = encrypted_rows (size_of P.modulus) P.dimension.0 (length xs) masks (secret_of key) (error_of (size_of P.modulus) es) (encodings g P xs)
+  ciphertexts = encrypted_rows (size_of P.modulus) P.dimension.0 (length xs) masks (secret_of key) (error_at (size_of P.modulus) es) (encodings g P xs)
 
   -- a row for each message, of words below q
   rows_fit : (room : ℕ) → refusal (encrypt_batch_rows P key masks es xs room) ≡ 0
@@ -160,8 +160,8 @@ module _ (P : LweParameters) (g : PlaintextEmbedding) (key : Key) (masks : List 
       let n = P.dimension.0 in
       let (positive, l) = batch_masks P g key masks es xs room e in
       let fourteen = others (error_words_fail q es) (key_fails q key) (words_fail q masks) (passed (encrypt_batch_rows P key masks es xs room) e 14 tt) in (
-        rows-length _ (n + 1) (length xs) (λ i h. encrypted-row q n (length xs) i masks (secret_of key) (error_of (size_of P.modulus) es i) (encodings g P xs i) l h),
-        rows-below q (length xs) _ (λ i h. encrypted-below q n positive _ (secret_of key) (error_of (size_of P.modulus) es i) (encodings g P xs i) (part_below q n masks i (words_ok q masks fourteen.1))),
+        rows-length _ (n + 1) (length xs) (λ i h. encrypted-row q n (length xs) i masks (secret_of key) (error_at (size_of P.modulus) es i) (encodings g P xs i) l h),
+        rows-below q (length xs) _ (λ i h. encrypted-below q n positive _ (secret_of key) (error_at (size_of P.modulus) es i) (encodings g P xs i) (part_below q n masks i (words_ok q masks fourteen.1))),
       )
 
   pub row-decoded : (room : ℕ) → refusal (encrypt_batch_rows P key masks es xs room) ≡ 0
@@ -173,9 +173,9 @@ module _ (P : LweParameters) (g : PlaintextEmbedding) (key : Key) (masks : List 
       let (positive, l) = batch_masks P g key masks es xs room e in
       let no = passed (encrypt_batch_rows P key masks es xs room) e in
       let few : error_count es ≡ length xs = length_ok _ _ (neither (length_fails (length masks) (length xs * n)) (length_fails (error_count es) (length xs)) (no 12 tt)).1 in
-      rw (row-encrypted q n (length xs) i masks (secret_of key) (error_of (size_of P.modulus) es) (encodings g P xs) l k)
+      rw (row-encrypted q n (length xs) i masks (secret_of key) (error_at (size_of P.modulus) es) (encodings g P xs) l k)
       (opens_fresh q positive n (take n (drop (i * n) masks)) (secret_of key) (row_mask n (length xs) i masks l k) (meant_embedding g) P.plaintext_modulus (get_or xs i 0) P.error_limit
-      (error_of (size_of P.modulus) es i) (words_ok _ xs (no 16 tt) i k) h (omega (arith, magnitudes_ok (P.error_limit + 1) (error_values (size_of P.modulus) es) (no 15 tt) i (omega (arith, error_length (size_of P.modulus) es)))))
+      (error_at (size_of P.modulus) es i) (words_ok _ xs (no 16 tt) i k) h (omega (arith, magnitudes_ok (P.error_limit + 1) (error_values (size_of P.modulus) es) (no 15 tt) i (omega (arith, error_length (size_of P.modulus) es)))))
 
   pub row-accepted : (room : ℕ) → refusal (encrypt_batch_rows P key masks es xs room) ≡ 0 → (i : ℕ) → i < length xs
       → refusal (decrypt_rows (decryption_of P) key (row_of P.dimension.0 ciphertexts i)) ≡ 0

@@ -14,7 +14,7 @@ use Rattle.std.proofs.Common.{Ok}
 use Rattle.scheme.specs.Modulus.{Fits}
 use Rattle.scheme.specs.Numbers.{Cong}
 use Rattle.scheme.specs.Basis.{Basis, Accepted}
-use Rattle.scheme.specs.Lwe.{Key, Words, Signed, secret_of, words, signed, row_of, Errors, error_count, error_values, error_of}
+use Rattle.scheme.specs.Lwe.{Key, Words, Signed, secret_of, words, signed, row_of, Errors, error_count, error_values, error_at}
 use Rattle.scheme.specs.Switch.{switched, switched_batch, generated}
 use Rattle.scheme.specs.Checks.{Check, refusal, length_fails}
 use Rattle.scheme.proofs.Residue.{cong_refl}
@@ -59,7 +59,7 @@ module _ (P : LweKeySwitchingParameters) (word : Fits 32 (meant P.basis.modulus)
   b = basis P.basis
 
   abbrev made : List ℕ
-  made = generated b (n_in P) (m_in P) (secret_of key) (words s') (error_of (q_in P) errors) masks
+  made = generated b (n_in P) (m_in P) (secret_of key) (words s') (error_at (q_in P) errors) masks
 
   -- lent masks and errors of an accepted generation
   pub lent_masks : (room : ℕ) → refusal (generate_rows P E key s' masks errors room) ≡ 0 → length masks ≡ n_in P * levels_in P * m_in P
@@ -67,7 +67,7 @@ module _ (P : LweKeySwitchingParameters) (word : Fits 32 (meant P.basis.modulus)
       length_ok _ _ (neither (length_fails (length masks) (n_in P * levels_in P * m_in P)) (length_fails (error_count errors) (n_in P * levels_in P))
       (passed (generate_rows P E key s' masks errors room) e 12 tt)).0
 
-  lent_errors : (room : ℕ) → refusal (generate_rows P E key s' masks errors room) ≡ 0 → (k : ℕ) → k < n_in P * levels_in P → nat_abs (error_of (q_in P) errors k) ≤ E
+  lent_errors : (room : ℕ) → refusal (generate_rows P E key s' masks errors room) ≡ 0 → (k : ℕ) → k < n_in P * levels_in P → nat_abs (error_at (q_in P) errors k) ≤ E
   lent_errors room e k h =
       let no = passed (generate_rows P E key s' masks errors room) e in
       let l : error_count errors ≡ n_in P * levels_in P = length_ok _ _ (neither (length_fails (length masks) (n_in P * levels_in P * m_in P)) (length_fails (error_count errors) (n_in P * levels_in P)) (no 12 tt)).1 in
@@ -80,9 +80,9 @@ module _ (P : LweKeySwitchingParameters) (word : Fits 32 (meant P.basis.modulus)
       let ok = basis-accepted P word _ e in
       let l = lent_masks room e in
       record {
-        phase = phase-switched b ok (n_in P) (m_in P) (secret_of key) (words s') (error_of (q_in P) errors) masks l x below;
-        nearer = phase_taken_as b ok (n_in P) (m_in P) (secret_of key) (words s') (error_of (q_in P) errors) masks l x below (taken_as (q_in P) key) (λ i h. taken_cong (q_in P) key i);
-        bounded = switch_bound_lem b ok (n_in P) (taken_as (q_in P) key) (error_of (q_in P) errors) x E (lent_errors room e);
+        phase = phase-switched b ok (n_in P) (m_in P) (secret_of key) (words s') (error_at (q_in P) errors) masks l x below;
+        nearer = phase_taken_as b ok (n_in P) (m_in P) (secret_of key) (words s') (error_at (q_in P) errors) masks l x below (taken_as (q_in P) key) (λ i h. taken_cong (q_in P) key i);
+        bounded = switch_bound_lem b ok (n_in P) (taken_as (q_in P) key) (error_at (q_in P) errors) x E (lent_errors room e);
       }
 
   pub batch_switched-accepted : (room : ℕ) → refusal (generate_rows P E key s' masks errors room) ≡ 0
