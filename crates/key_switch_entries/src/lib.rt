@@ -75,7 +75,8 @@ pub fn generate_refusal(
     s.error_limit = checks::error_limit_refused(error_limit, params.basis.modulus());
     s.judge()?;
     let mut v = Values::default();
-    v.word = words_refused(params, key, output_key, masks) | errors.words_refused(params.basis.modulus());
+    v.word = words_refused(params, key, output_key, masks)
+        | errors.words_refused(params.basis.modulus());
     v.error = errors.outside(error_limit, params.basis.modulus());
     v.judge()
 }

@@ -31,7 +31,8 @@ pub fn packed_message_refusal(
     s.lent = checks::lengths_differ(mask.len(), dimension.get(), errors.count(), count);
     s.judge()?;
     let mut v = Values::default();
-    v.word = checks::both_refused(params.modulus, secret, mask) | errors.words_refused(params.modulus);
+    v.word = checks::both_refused(params.modulus, secret, mask)
+        | errors.words_refused(params.modulus);
     v.error = errors.outside(params.error_limit, params.modulus);
     v.message = checks::messages_refused(params.plaintext_modulus, messages);
     v.judge()

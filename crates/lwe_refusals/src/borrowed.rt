@@ -41,7 +41,8 @@ pub fn encrypt_refusal(
     s.lent = checks::lengths_differ(mask.len(), params.dimension.get(), errors.count(), 1);
     s.judge()?;
     let mut v = Values::default();
-    v.word = word_refused(key, params.modulus, mask, plaintext) | errors.words_refused(params.modulus);
+    v.word = word_refused(key, params.modulus, mask, plaintext)
+        | errors.words_refused(params.modulus);
     v.error = errors.outside(params.error_limit, params.modulus);
     v.judge()
 }

@@ -54,7 +54,7 @@ nearest_centred q w h = go (leb (2 * w) q) refl
     go false e =
         record {
           above = simp diff (⊖-lt _ _ _ _ (omega (arith, leb-false (2 * w) q e)));
-          most = simp diff (⊖-le _ _ _ _ (omega arith))
+          most = simp diff (⊖-le _ _ _ _ (omega arith));
         }
 
 -- e turns of q on one side and f on the other are as many, where the two sides lie less than q apart
