@@ -22,7 +22,7 @@ impl From<Result<LweTag, Refusal>> for LweOutcome {
             Ok(tag) => LweOutcome { refusal: 0, tag },
             Err(refusal) => LweOutcome {
                 refusal: u32::from(refusal),
-                tag: LweTag::none(),
+                tag: LweTag::untallied(),
             },
         }
     }

@@ -23,5 +23,5 @@ pub fn key_switch_batch_to(
     let output_differs = checks::ciphertexts_differ(out.len(), count, m);
     switch_refusal(params, key, input, input_differs, output_differs)?;
     switch_judged(out, input, key, count, params);
-    Ok(LweTag::none())
+    Ok(LweTag::untallied())
 }

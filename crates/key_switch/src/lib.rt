@@ -81,5 +81,5 @@ pub fn key_switch_to(
     let output_differs = m.ciphertext_differs(out.len());
     switch_refusal(params, key, input, input_differs, output_differs)?;
     switch_judged(out, input, key, 1, params);
-    Ok(LweTag::none())
+    Ok(LweTag::untallied())
 }

@@ -88,5 +88,5 @@ pub fn extract_lwe_at(
     extract_refusal(modulus, dimension, input, index, out.len())?;
     let ring = Ring { modulus };
     write_extracted(out, input, index, ring);
-    Ok(LweTag::none())
+    Ok(LweTag::untallied())
 }

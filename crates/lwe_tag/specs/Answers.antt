@@ -29,41 +29,53 @@ abbrev pub number_of_tally : Option ℕ → ℕ
 number_of_tally None = no_tally
 number_of_tally (Some a) = a
 
--- the tally of a tag, and the tag of a tally
-abbrev pub tally_of : LweTag → S.Tally
-tally_of g = meant_tally (tally_for g.tally)
+-- what a tag says, and the tag that says it
+abbrev pub carried_of : LweTag → S.Carried
+carried_of g = record { tally = meant_tally (tally_for g.tally); count = g.count }
 
-abbrev pub tag_of : S.Tally → LweTag
-tag_of t = record { tally = number_of_tally (held_tally t) }
+abbrev pub tag_of : S.Carried → LweTag
+tag_of c = record { tally = number_of_tally (held_tally c.tally); count = c.count }
 
 -- the tag of what a call writes
 abbrev pub tag_from : S.Origin → LweTag
-tag_from o = tag_of (S.tally_from o)
+tag_from o = tag_of (S.carried_from o)
+
+-- the tag of what was saved
+abbrev pub tag_saved : S.Tally → Option ℕ → LweTag
+tag_saved a c = tag_of (S.carried_saved a c)
+
+-- the tag of one encryption of which no tally is known
+abbrev pub untallied : LweTag
+untallied = tag_saved S.Absent None
 
 -- 17: "exceeds 2^32"
 abbrev pub cap : ℕ
 cap = 2 ^ 32
 
--- the tag of a sum; no tally where the sum is refused
+-- the tag of a sum; where the sum is refused, one without a tally
 abbrev pub sum_tag : LweTag → LweTag → LweTag
 sum_tag x y =
-    pick (S.tally_fails cap (S.add_tally (tally_of x) (tally_of y)))
-    (tag_of S.Absent) (tag_of (S.add_tally (tally_of x) (tally_of y)))
+    pick (S.carried_fails cap (S.add_carried (carried_of x) (carried_of y)))
+    untallied (tag_of (S.add_carried (carried_of x) (carried_of y)))
 
--- "A tally, given or summed"
+-- 17, of a tag that is given
+abbrev pub tag_fails : LweTag → Bool
+tag_fails g = S.carried_fails cap (carried_of g)
+
+-- "A tally, given or summed", and so c
 abbrev pub tag_rows : LweTag → LweTag → List Check
 tag_rows x y =
-    row (S.tally_fails cap (tally_of x)) 17
-    ∷ row (S.tally_fails cap (tally_of y)) 17
-    ∷ row (S.tally_fails cap (S.add_tally (tally_of x) (tally_of y))) 17
+    row (tag_fails x) 17
+    ∷ row (tag_fails y) 17
+    ∷ row (S.carried_fails cap (S.add_carried (carried_of x) (carried_of y))) 17
     ∷ []
 
 -- the mark judges 2, 7, 8 and 17
 abbrev pub mark_rows : LweTag → Modulus → ℕ → List Check
-mark_rows x m t = codec_rows t (meant m) ++ row (S.tally_fails cap (tally_of x)) 17 ∷ []
+mark_rows x m t = codec_rows t (meant m) ++ row (tag_fails x) 17 ∷ []
 
 abbrev pub mark_answer : LweTag → Modulus → ℕ → Result Bool Refusal
-mark_answer x m t = answer (mark_rows x m t) (S.good (size_of m) t (tally_of x))
+mark_answer x m t = answer (mark_rows x m t) (S.good (size_of m) t (carried_of x))
 
 -- A call with these rows writes ciphertexts, each with this tag. Where no number applies it answers the tag, and the buffer holds the
 -- result; else it answers the first refusal and no tag, and the buffer holds what it held.

@@ -65,7 +65,7 @@ pub fn encrypt_message_batch_to(
         modulus: params.modulus,
     };
     write_messages(out, moduli, embedding, secret, masks, errors, messages);
-    Ok(LweTag::with_tally(u64::from(params.error_limit)))
+    Ok(LweTag::fresh(params.error_limit))
 }
 
 // The phase of row i. Stays: i beside a slice: it is a place in the batch, and no length of it.

@@ -53,7 +53,7 @@ pub fn encrypt_message_packed(
     let (_, bodies) = out.split_at_mut(mask.len());
     write_encodings(bodies, moduli, embedding, messages);
     lwe_packing::write_packed(out, mask, secret, errors, moduli.ring());
-    Ok(LweTag::none())
+    Ok(LweTag::untallied())
 }
 
 // decode of the phase of each body. Refuses by 2, 6, 7, 8, 9, 10, 11, 14.

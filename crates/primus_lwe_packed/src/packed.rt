@@ -30,7 +30,7 @@ pub fn encrypt_encoded_packed(
     let (_, bodies) = out.split_at_mut(mask.len());
     bodies.copy_from_slice(plaintexts);
     lwe_packing::write_packed(out, mask, secret, errors, ring);
-    Ok(LweTag::none())
+    Ok(LweTag::untallied())
 }
 
 // The phase of each body. Refuses by 2, 6, 9, 10, 11, 14.

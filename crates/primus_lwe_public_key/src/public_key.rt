@@ -165,7 +165,7 @@ impl LwePublicKey {
             modulus: params.modulus,
         };
         lwe_public_rows::write_public(out, key, errors, coefficients, plaintext, ring);
-        Ok(LweTag::none())
+        Ok(LweTag::untallied())
     }
 
     // An encryption of encode(m); no tally. Refuses by 2, 6, 7, 8, 9, 11, 12, 13, 14, 15, 16.
@@ -189,6 +189,6 @@ impl LwePublicKey {
         };
         let plaintext = moduli.encode_as(embedding, message);
         lwe_public_rows::write_public(out, key, errors, coefficients, plaintext, moduli.ring());
-        Ok(LweTag::none())
+        Ok(LweTag::untallied())
     }
 }

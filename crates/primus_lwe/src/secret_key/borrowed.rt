@@ -28,7 +28,7 @@ pub fn encrypt_encoded_to(
         modulus: params.modulus,
     };
     lwe_secret_key::encrypt_to(key, out, mask, errors, 0, plaintext, ring);
-    Ok(LweTag::with_tally(u64::from(params.error_limit)))
+    Ok(LweTag::fresh(params.error_limit))
 }
 
 // b − ⟨a, s⟩ modulo q. Refuses by 2, 6, 9, 10, 14.

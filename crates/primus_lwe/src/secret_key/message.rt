@@ -33,7 +33,7 @@ pub fn encrypt_message_to(
     };
     let plaintext = moduli.encode_as(embedding, message);
     lwe_secret_key::encrypt_to(key, out, mask, errors, 0, plaintext, moduli.ring());
-    Ok(LweTag::with_tally(u64::from(params.error_limit)))
+    Ok(LweTag::fresh(params.error_limit))
 }
 
 // decode of the phase. Refuses by 2, 6, 7, 8, 9, 10, 14.
