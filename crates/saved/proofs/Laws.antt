@@ -16,14 +16,14 @@ past64 : (s : List ℕ) (i : ℕ) → length s ≤ i → word64 s i ≡ 0
 unfolding word64
 past64 s i h = grind (arith, past32 s i h, past32 s (i + 4))
 
--- the place of item i, of `size` bytes, as the code computes it
-pub word_capped : (s : List ℕ) (i : ℕ) → length s < 2 ^ 63 → word32 s (min (min (i * 4) (2 ^ 64 - 1) + 64) (2 ^ 64 - 1)) ≡ word32 s (64 + 4 * i)
-word_capped s i h =
-    let past = past32 s (min (min (i * 4) (2 ^ 64 - 1) + 64) (2 ^ 64 - 1)) in
-    grind (arith, common_steps, past, past32 s (64 + 4 * i))
+-- the place of item i, of four or eight bytes, as the code computes it
+pub four_capped : (s : List ℕ) (base i : ℕ) → length s < 2 ^ 63 → word32 s (min (min (i * 4) (2 ^ 64 - 1) + base) (2 ^ 64 - 1)) ≡ word32 s (base + 4 * i)
+four_capped s base i h =
+    let past = past32 s (min (min (i * 4) (2 ^ 64 - 1) + base) (2 ^ 64 - 1)) in
+    grind (arith, common_steps, past, past32 s (base + 4 * i))
 
-pub number_capped : (s : List ℕ) (base i : ℕ) → length s < 2 ^ 63 → word64 s (min (min (i * 8) (2 ^ 64 - 1) + base) (2 ^ 64 - 1)) ≡ word64 s (base + 8 * i)
-number_capped s base i h =
+pub eight_capped : (s : List ℕ) (base i : ℕ) → length s < 2 ^ 63 → word64 s (min (min (i * 8) (2 ^ 64 - 1) + base) (2 ^ 64 - 1)) ≡ word64 s (base + 8 * i)
+eight_capped s base i h =
     let past = past64 s (min (min (i * 8) (2 ^ 64 - 1) + base) (2 ^ 64 - 1)) in
     grind (arith, common_steps, past, past64 s (base + 8 * i))
 

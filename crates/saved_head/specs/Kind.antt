@@ -29,6 +29,10 @@ abbrev pub is_ciphertexts : Kind → Bool
 is_ciphertexts K.Ciphertexts = true
 is_ciphertexts _ = false
 
+abbrev pub is_packed : Kind → Bool
+is_packed K.Packed = true
+is_packed _ = false
+
 abbrev pub is_unknown : Kind → Bool
 is_unknown (K.Unknown k) = true
 is_unknown _ = false

@@ -1,10 +1,10 @@
 // The head of a saved file: 64 bytes. Whatever is no whole file of this layout is refused by 19.
-ghost use Rattle.std.specs.Prelude.{◌≡◌, not, eqb, ltb, length};
+ghost use Rattle.std.specs.Prelude.{◌≡◌, ◌&&◌, ◌+◌, ◌*◌, not, eqb, ltb, length};
 ghost use Rattle.scheme.specs.Numbers.{pick};
 ghost use Rattle.check_order.specs.Answer.{code_of};
-ghost use Rattle.saved_head.specs.Kind.{is_ciphertexts};
-ghost use Rattle.saved_head.specs.Head.{head_of, file_fails};
-ghost use Rattle.saved_head.specs.Head.{signature_fails, kept_fails, size_fails};
+ghost use Rattle.saved_head.specs.Kind.{is_ciphertexts, is_packed};
+ghost use Rattle.saved_head.specs.Head.{head_of, has_tallies, has_counts, tallies_size};
+ghost use Rattle.saved_head.specs.Head.{signature_fails, kept_fails, file_fails};
 
 use crate::Kind;
 use check_order::Refusal;
@@ -25,6 +25,67 @@ pub struct Head {
     pub count: u32,
     pub words: u32,
     pub beside: u32,
+}
+
+impl Head {
+    // Bit 1 beside the words: a tally for each ciphertext.
+    pub fn has_tallies(self) -> bool
+        ensures { result ≡ has_tallies self.beside }
+    {
+        self.beside % 2 == 1
+    }
+
+    // Bit 2: the number c of encryptions summed in each.
+    pub fn has_counts(self) -> bool
+        ensures { result ≡ has_counts self.beside }
+    {
+        self.beside / 2 % 2 == 1
+    }
+
+    // How many bytes the tallies have; the numbers c come after them.
+    pub fn tallies_size(self) -> usize
+        ensures { result ≡ tallies_size self.count self.beside }
+    {
+        if self.has_tallies() {
+            return 8 * self.count as usize;
+        }
+        0
+    }
+
+    // A packed ciphertext has one c, however many bodies.
+    fn counts_size(self) -> usize
+        ensures { result ≡ pick (has_counts self.beside) (pick (is_packed self.kind) 4 (4 * self.count)) 0 }
+    {
+        if !self.has_counts() {
+            return 0;
+        }
+        if self.kind.is_packed() {
+            return 4;
+        }
+        4 * self.count as usize
+    }
+
+    // Ciphertexts of one message have tallies and numbers c, a packed one a c, and nothing else has anything beside its words.
+    fn beside_refused(self) -> bool
+        ensures { result ≡ pick (is_ciphertexts self.kind) (ltb 3 self.beside)
+            (pick (is_packed self.kind) (not (eqb self.beside 0) && not (eqb self.beside 2)) (not (eqb self.beside 0))) }
+    {
+        if self.kind.is_ciphertexts() {
+            return 3 < self.beside;
+        }
+        if self.kind.is_packed() {
+            return self.beside != 0 && self.beside != 2;
+        }
+        self.beside != 0
+    }
+
+    // The length is not the one that the head gives.
+    fn size_differs(self, len: usize) -> bool
+        ensures { result ≡ not (eqb len (64 + 4 * self.words + tallies_size self.count self.beside
+            + pick (has_counts self.beside) (pick (is_packed self.kind) 4 (4 * self.count)) 0)) }
+    {
+        len != 64 + 4 * self.words as usize + self.tallies_size() + self.counts_size()
+    }
 }
 
 // The head, of any bytes. Stays: no TryFrom: a program prints the head of a refused file too.
@@ -55,16 +116,6 @@ fn signature_unknown(bytes: &[u8]) -> bool
     little_endian::u64_at(bytes, 0) != 0x1_4e4c_4753
 }
 
-// Only ciphertexts of one message have tallies beside their words; nothing else is saved by this release.
-fn beside_refused(kind: Kind, beside: u32) -> bool
-    ensures { result ≡ pick (is_ciphertexts kind) (ltb 1 beside) (not (eqb beside 0)) }
-{
-    if kind.is_ciphertexts() {
-        return 1 < beside;
-    }
-    beside != 0
-}
-
 // The last twelve bytes of a head are kept for later releases.
 fn kept_used(bytes: &[u8]) -> bool
     ensures { result ≡ kept_fails bytes.now }
@@ -72,24 +123,13 @@ fn kept_used(bytes: &[u8]) -> bool
     little_endian::u64_at(bytes, 52) != 0 || little_endian::u32_at(bytes, 60) != 0
 }
 
-// The length is not the one that the head gives.
-fn size_differs(len: usize, words: u32, count: u32, beside: u32) -> bool
-    ensures { result ≡ size_fails len words count beside }
-{
-    if beside == 1 {
-        return len != 64 + 4 * words as usize + 8 * count as usize;
-    }
-    len != 64 + 4 * words as usize
-}
-
 // Whether bytes are no whole file of this layout. Stays beside `file_refusal`: two callers want the condition alone.
-#[tactic(auto, unfolding(crate::specs::Head::head_of))]
 pub fn file_refused(bytes: &[u8]) -> bool
     ensures { result ≡ file_fails bytes.now }
 {
     let h = head_of(bytes);
-    let r = size_differs(bytes.len(), h.words, h.count, h.beside) | kept_used(bytes);
-    let r = (r | beside_refused(h.kind, h.beside)) | h.kind.is_unknown();
+    let r = h.size_differs(bytes.len()) | kept_used(bytes);
+    let r = (r | h.beside_refused()) | h.kind.is_unknown();
     (r | signature_unknown(bytes)) | (bytes.len() < 64)
 }
 

@@ -1,6 +1,6 @@
 // What the words of a saved file are.
 ghost use Rattle.std.specs.Prelude.{◌≡◌};
-ghost use Rattle.saved_head.specs.Kind.{kind_for, number_of, is_ciphertexts, is_unknown};
+ghost use Rattle.saved_head.specs.Kind.{kind_for, number_of, is_ciphertexts, is_packed, is_unknown};
 
 // A number of no kind is kept: such a file is refused. Stays: no Option: a program prints the number.
 #[derive(Clone, Copy, Debug, PartialEq, Eq)]
@@ -21,6 +21,13 @@ impl Kind {
         ensures { result ≡ is_ciphertexts self }
     {
         matches!(self, Kind::Ciphertexts)
+    }
+
+    // One mask with several bodies.
+    pub fn is_packed(self) -> bool
+        ensures { result ≡ is_packed self }
+    {
+        matches!(self, Kind::Packed)
     }
 
     pub fn is_unknown(self) -> bool
