@@ -2,42 +2,56 @@
 // Stays: each lent buffer is a parameter of its own, as in the Rust and in C; what refuses a call takes them as they come.
 #![tactic(auto)]
 
-ghost use Rattle.std.specs.Prelude.{◌≡◌, length};
+ghost use Rattle.std.specs.Prelude.{◌≡◌, [], length};
 ghost use Rattle.scheme.specs.Switch.{switched_batch};
 ghost use Rattle.scheme.specs.Checks.{refusal};
 ghost use Rattle.check_order.specs.Answer.{code_of};
 ghost use Rattle.primus_decompose.specs.Answers.{basis};
 ghost use Rattle.key_switch_parameters.specs.Answers.{n_in, m_in};
-ghost use Rattle.key_switch.specs.Answers.{input_rows, Switches, Switchable};
+ghost use Rattle.check_order.specs.Judged.{JudgesSizes};
+ghost use Rattle.key_switch.specs.Answers.{input_rows, switch_rows, Switches, Switchable};
 
 mod batch;
 
 pub use batch::key_switch_batch_to;
-use check_order::{Refusal, Values};
+use check_order::{Refusal, Sizes, Values};
 use key_switch_kernel::switch_tiles;
 pub use key_switch_key::LweKeySwitchingKey;
 pub use key_switch_parameters::LweKeySwitchingParameters;
 use key_switch_tile::Shape;
 use lwe_tag::LweTag;
 
-// The first refusal of a switch, where 10 and 11 are judged by the caller.
-pub(crate) fn switch_refusal(
+// The numbers and lengths that both switches judge, where 10 and 11 are judged by the caller.
+pub(crate) fn switch_sizes(
     params: LweKeySwitchingParameters,
     key: &[u32],
-    input: &[u32],
     input_differs: bool,
     output_differs: bool,
-) -> Result<(), Refusal>
-    ensures { code_of result ≡ refusal (input_rows params key.now input.now
-        input_differs output_differs) }
+) -> Sizes
+    ensures { JudgesSizes (input_rows params key.now [] input_differs output_differs) result }
 {
     let mut s = params.sizes();
     s.key = params.key_differs(key.len());
     s.input = input_differs;
     s.output = output_differs;
-    s.judge()?;
+    s
+}
+
+fn switch_refusal(
+    params: LweKeySwitchingParameters,
+    key: &[u32],
+    input: &[u32],
+    tag: LweTag,
+    room: usize,
+) -> Result<(), Refusal>
+    ensures { code_of result ≡ refusal (switch_rows params key.now input.now tag room) }
+{
+    let input_differs = params.input_dimension.ciphertext_differs(input.len());
+    let output_differs = params.output_dimension.ciphertext_differs(room);
+    switch_sizes(params, key, input_differs, output_differs).judge()?;
     let mut v = Values::default();
     v.word = params.words_refused(key, input);
+    v.tally = tag.refused();
     v.judge()
 }
 
@@ -65,21 +79,18 @@ pub(crate) fn switch_judged(
     switch_tiles(out, input, key, count, shape);
 }
 
-// One ciphertext, as a batch of one row; no tally. Refuses by 1 to 3, 5, 6, 9, 10, 11, 14.
+// One ciphertext, as a batch of one row, and its tag: the c of the input, and no tally. Refuses by 1 to 3, 5, 6, 9, 10, 11, 14, 17.
 pub fn key_switch_to(
     params: LweKeySwitchingParameters,
     key: &[u32],
     input: &[u32],
+    tag: LweTag,
     out: &mut [u32],
 ) -> Result<LweTag, Refusal>
-    ensures { Switches params key.now input.now
+    ensures { Switches params key.now input.now tag
         out.old result out.new }
 {
-    let n = params.input_dimension;
-    let m = params.output_dimension;
-    let input_differs = n.ciphertext_differs(input.len());
-    let output_differs = m.ciphertext_differs(out.len());
-    switch_refusal(params, key, input, input_differs, output_differs)?;
+    switch_refusal(params, key, input, tag, out.len())?;
     switch_judged(out, input, key, 1, params);
-    Ok(LweTag::untallied())
+    Ok(tag.without_tally())
 }

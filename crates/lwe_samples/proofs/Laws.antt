@@ -14,6 +14,7 @@ use Rattle.scheme.proofs.Lists.{is_tabulate}
 use Rattle.scheme.proofs.Order.{passed, neither}
 use Rattle.primus_reduce.specs.Ring.{meant, size_of, modulo}
 use Rattle.primus_reduce.specs.declared.modulus.Modulus.{Modulus}
+use Rattle.lwe_tag.specs.declared.LweTag.{LweTag}
 use Rattle.lwe_samples.specs.Answers.{body_fails}
 use Rattle.lwe_samples.specs.Answers.{extract_rows}
 
@@ -77,9 +78,9 @@ pub record Extractable (q n i len room : ℕ) : Type 0 where
   pub within : n + i < len
   pub width : room - 1 ≡ n
 
-pub extractable : (m : Modulus) (n : ℕ) (x : List ℕ) (i room : ℕ) → 0 ≡ refusal (extract_rows m n x i room) → Extractable (size_of m) n i (length x) room
-extractable m n x i room e =
-    let no = passed (extract_rows m n x i room) (sym e) in
+pub extractable : (m : Modulus) (n : ℕ) (x : List ℕ) (g : LweTag) (i room : ℕ) → 0 ≡ refusal (extract_rows m n x g i room) → Extractable (size_of m) n i (length x) room
+extractable m n x g i room e =
+    let no = passed (extract_rows m n x g i room) (sym e) in
     let ten = neither (packed_fails (length x) n) (body_fails (length x) n i) (no 10 tt) in
     let l : (n ≤ length x) × (length x ≤ n + n) = packed_ok (length x) n ten.0 in
     let b : i < length x - n = leb-false (length x - n) i ten.1 in

@@ -42,10 +42,11 @@ fn extract_refusal(
     modulus: Modulus,
     dimension: LweDimension,
     input: &[u32],
+    tag: LweTag,
     index: usize,
     room: usize,
 ) -> Result<(), Refusal>
-    ensures { code_of result ≡ refusal (extract_rows modulus dimension.0 input.now index room) }
+    ensures { code_of result ≡ refusal (extract_rows modulus dimension.0 input.now tag index room) }
 {
     let mut s = Sizes::default();
     s.modulus = checks::modulus_refused(modulus);
@@ -55,6 +56,7 @@ fn extract_refusal(
     s.judge()?;
     let mut v = Values::default();
     v.word = checks::words_refused(modulus, input);
+    v.tally = tag.refused();
     v.judge()
 }
 
@@ -75,18 +77,20 @@ fn write_extracted(out: &mut [u32], input: &[u32], index: usize, ring: Ring)
     }
 }
 
-// The sample of body `index`, as a ciphertext of one message, without a tally. Refuses by 2, 6, 10, 11, 14.
+// The sample of body `index`, as a ciphertext of one message, and its tag: the c of the packed one, and no tally. Refuses by 2, 6, 10, 11,
+// 14, 17.
 pub fn extract_lwe_at(
     modulus: Modulus,
     dimension: LweDimension,
     input: &[u32],
+    tag: LweTag,
     index: usize,
     out: &mut [u32],
 ) -> Result<LweTag, Refusal>
-    ensures { Extracts modulus dimension input.now index out.old result out.new }
+    ensures { Extracts modulus dimension input.now tag index out.old result out.new }
 {
-    extract_refusal(modulus, dimension, input, index, out.len())?;
+    extract_refusal(modulus, dimension, input, tag, index, out.len())?;
     let ring = Ring { modulus };
     write_extracted(out, input, index, ring);
-    Ok(LweTag::untallied())
+    Ok(tag.without_tally())
 }

@@ -1,5 +1,6 @@
 -- What a tag stands for, the mark, and what a call that writes a ciphertext promises.
-use Rattle.std.specs.Prelude.{◌≡◌, List, [], ◌∷◌, ◌++◌, ℕ, Bool, ◌-◌, ◌^◌, ◌==◌, Option, Some, None, Result}
+use Rattle.std.specs.Prelude.{◌≡◌, List, [], ◌∷◌, ◌++◌, ℕ, Bool, ◌-◌, ◌^◌, ◌==◌, Option, Some, None, Result, map}
+use Rattle.std.specs.List.{list_any}
 use Rattle.scheme.specs.Numbers.{pick}
 use Rattle.scheme.specs.Tally as S
 use Rattle.scheme.specs.Checks.{Check, row, refusal, codec_rows}
@@ -61,6 +62,14 @@ sum_tag x y =
 -- 17, of a tag that is given
 abbrev pub tag_fails : LweTag → Bool
 tag_fails g = S.carried_fails cap (carried_of g)
+
+-- of each of some tags
+abbrev pub tags_fail : List LweTag → Bool
+tags_fail gs = list_any tag_fails gs
+
+-- the tags after a switch of each
+abbrev pub switched_tags : List LweTag → List LweTag
+switched_tags gs = map (λ g. tag_from (S.Switched (carried_of g))) gs
 
 -- "A tally, given or summed", and so c
 abbrev pub tag_rows : LweTag → LweTag → List Check

@@ -8,7 +8,7 @@ ghost use Rattle.scheme.specs.Tally.{Fresh, Switched, add_tally, add_carried, go
 ghost use Rattle.primus_reduce.specs.Ring.{size_of};
 ghost use Rattle.check_order.specs.Answer.{code_of};
 ghost use Rattle.lwe_tag.specs.Answers.{meant_tally, held_tally, tally_for, number_of_tally, carried_of, tag_of, tag_from, tag_saved};
-ghost use Rattle.lwe_tag.specs.Answers.{untallied, sum_tag, tag_fails, cap, mark_rows, mark_answer};
+ghost use Rattle.lwe_tag.specs.Answers.{untallied, sum_tag, tag_fails, tags_fail, switched_tags, cap, mark_rows, mark_answer};
 
 use check_order::{Refusal, Sizes, Values};
 use primus_reduce::Modulus;
@@ -114,6 +114,23 @@ pub fn tags_sum(x: LweTag, y: LweTag) -> LweTag
     }
     let tally = sum(x.tally(), y.tally());
     LweTag::of(number_from_tally(tally), x.count + y.count)
+}
+
+// 17, one of the tags.
+pub fn any_refused(tags: &[LweTag]) -> bool
+    ensures { result ≡ tags_fail tags.now }
+{
+    tags.iter().any(|tag| tag.refused())
+}
+
+// The tags of ciphertexts that were switched, in place of their own.
+#[tactic(auto, using(scheme::proofs::InPlace::filled_start, scheme::proofs::InPlace::filled_end, crate::proofs::Laws::switched_length))]
+pub fn without_tallies(tags: &mut [LweTag])
+    ensures { tags.new ≡ switched_tags tags.old }
+{
+    for tag in tags.iter_mut() {
+        *tag = tag.without_tally();
+    }
 }
 
 // 2t × a + c × t < q. From a = 2^30 on it never holds, since t ≥ 2; below that the products have less than 63 and 49 bits.
