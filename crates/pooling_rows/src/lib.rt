@@ -1,8 +1,8 @@
-// One ciphertext of a saved file added to that of a total, and the tallies of both. Steps of pooling, not for users.
+// One ciphertext of a saved file added to that of a total, and the tags of both. Steps of pooling, not for users.
 #![tactic(auto)]
 
 mod rows;
-mod tallies;
+mod tags;
 
 pub use rows::add_row;
-pub use tallies::{saved_refused, tallies_refused, write_tallies};
+pub use tags::{saved_refused, tags_refused, write_tags};

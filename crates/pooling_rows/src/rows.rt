@@ -5,7 +5,7 @@ ghost use Rattle.scheme.specs.Checks.{refusal};
 ghost use Rattle.primus_reduce.specs.Ring.{size_of};
 ghost use Rattle.primus_lattice.specs.Answers.{add_rows};
 ghost use Rattle.saved.specs.Layout.{saved_tag};
-ghost use Rattle.pooling_rows.specs.Rows.{tag_for, sum_number, words_from, row_at, replaced_row};
+ghost use Rattle.pooling_rows.specs.Rows.{added_tag, words_from, row_at, replaced_row};
 
 use lwe_tag::LweTag;
 use primus_lattice::{LweDimension, add_assign};
@@ -26,32 +26,30 @@ fn words_from(out: &mut [u32], bytes: &[u8], at: usize)
 // A row of the largest dimension. Stays: fixed memory, with no heap, cut to the width of the total.
 const ROW: usize = LweDimension::MAX + 1;
 
-// Adds ciphertext i of a file to that of a total, in its place: the number of the sum's tag.
-// Stays: a tag as its number, as a total lends its tallies; i, a place and no length; and q and n alone, as `add_assign` takes them.
+// Adds ciphertext i of a file to that of a total, in its place: the tag of the sum.
+// Stays: i, a place and no length; and q and n alone, as `add_assign` takes them.
 pub fn add_row(
     total: &mut [u32],
-    number: u64,
+    tag: LweTag,
     bytes: &[u8],
     i: usize,
     modulus: Modulus,
     dimension: LweDimension,
-) -> u64
+) -> LweTag
     requires { let width = dimension.0 + 1 in (i * width + width ≤ length total.old) × (width ≤ 2049)
-        × (refusal (add_rows modulus dimension.0 (row_at width total.old i) (tag_for number)
+        × (refusal (add_rows modulus dimension.0 (row_at width total.old i) tag
         (words_from bytes.now (i * width) width) (saved_tag bytes.now i)) ≡ 0) }
     ensures { let width = dimension.0 + 1 in (total.new ≡ replaced_row width total.old i
         (add_words (size_of modulus) (row_at width total.old i)
         (words_from bytes.now (i * width) width)))
-        × (result ≡ sum_number (tag_for number) (saved_tag bytes.now i)) }
+        × (result ≡ added_tag tag (saved_tag bytes.now i)) }
 {
     let width = dimension.get() + 1;
     let at = i * width;
     let mut space = [0u32; ROW];
     let room = &mut space[..width];
     words_from(room, bytes, at);
-    let tag = saved::tag_at(bytes, i);
+    let given = saved::tag_at(bytes, i);
     let row = &mut total[at..at + width];
-    let given = LweTag::with_tally(number);
-    let sum = add_assign(modulus, dimension, row, given, room, tag).unwrap();
-    u64::from(sum)
+    add_assign(modulus, dimension, row, tag, room, given).unwrap()
 }
