@@ -7,6 +7,7 @@ use Rattle.scheme.specs.Checks.{Check, all_of, applies, refusal, words_fail}
 use Rattle.check_order.specs.declared.Sizes.{Sizes}
 use Rattle.check_order.specs.Judged.{JudgesSizes}
 use Rattle.saved_head.specs.declared.head.Head.{Head}
+use Rattle.lwe_tag.specs.declared.LweTag.{LweTag}
 use Rattle.lwe_parameters.specs.declared.parameter.LweDecryptionParameters.{LweDecryptionParameters}
 use Rattle.pooling_rows.proofs.Laws.{all_next}
 use Rattle.pooling_refusals.specs.Rows.{size_rows, begin_rows, total_rows, file_refusal}
@@ -28,7 +29,7 @@ module _ (p : LweDecryptionParameters) (h : Head) (s : List ℕ) (j : Sizes) whe
   pub begin_sized : (width places : ℕ) → JudgesSizes (size_rows p h width places) j → JudgesSizes (begin_rows p h s width places) j
   begin_sized width places g = search rules
 
-  pub total_sized : (xs ts : List ℕ) → JudgesSizes (size_rows p h (length xs) (length ts)) j → JudgesSizes (total_rows p h s xs ts) j
+  pub total_sized : (xs : List ℕ) (ts : List LweTag) → JudgesSizes (size_rows p h (length xs) (length ts)) j → JudgesSizes (total_rows p h s xs ts) j
   total_sized xs ts g = search rules
 
 -- of the head of a file

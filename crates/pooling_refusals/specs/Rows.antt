@@ -7,12 +7,13 @@ use Rattle.check_order.specs.declared.refusal.Refusal.{Refusal}
 use Rattle.check_order.specs.Answer.{number_of as number_of_refusal}
 use Rattle.primus_reduce.specs.Ring.{size_of, number_of}
 use Rattle.primus_reduce.specs.declared.modulus.Modulus.{Modulus}
+use Rattle.lwe_tag.specs.declared.LweTag.{LweTag}
 use Rattle.lwe_parameters.specs.Answers.{decryption_parameters_rows}
 use Rattle.saved_head.specs.declared.head.Head.{Head}
 use Rattle.saved_head.specs.Kind.{is_ciphertexts}
 use Rattle.saved_head.specs.Head.{head_of, file_rows}
 use Rattle.saved.specs.Layout.{file_words}
-use Rattle.pooling_rows.specs.Rows.{tallies_fail, saved_fail}
+use Rattle.pooling_rows.specs.Rows.{tags_fail, saved_fail}
 use Rattle.lwe_parameters.specs.declared.parameter.LweDecryptionParameters.{LweDecryptionParameters}
 
 -- 19: a file of another kind, or made with another q or t, is unknown to this total
@@ -31,7 +32,7 @@ size_rows p h width places =
     ∷ row (length_fails places h.count) 12
     ∷ []
 
--- 19: no whole file, or none of this total. The E of its head is not judged: a sum takes words and tallies, and no E
+-- 19: no whole file, or none of this total. The E of its head is not judged: a sum takes words and tags, and no E
 abbrev pub own_rows : LweDecryptionParameters → Head → List ℕ → List Check
 own_rows p h s = row (other_fails h p.modulus p.plaintext_modulus) 19 ∷ file_rows s
 
@@ -52,13 +53,13 @@ begin_rows p h s width places =
     ∷ []
 
 -- a file s with the head h, added to the words xs and the tags ts
-abbrev pub total_rows : LweDecryptionParameters → Head → List ℕ → List ℕ → List ℕ → List Check
+abbrev pub total_rows : LweDecryptionParameters → Head → List ℕ → List ℕ → List LweTag → List Check
 total_rows p h s xs ts =
     own_rows p h s
     ++ size_rows p h (length xs) (length ts)
     ++ row (words_fail (size_of p.modulus) xs) 14
     ∷ row (words_fail (size_of p.modulus) (file_words s h.words)) 14
-    ∷ row (tallies_fail ts s) 17
+    ∷ row (tags_fail ts s) 17
     ∷ []
 
 -- 19 comes first, since of what is no file of this total nothing can be judged; then the order
@@ -68,5 +69,5 @@ file_refusal rows = pick (applies rows 19) 19 (refusal rows)
 abbrev pub begin_refusal : LweDecryptionParameters → List ℕ → ℕ → ℕ → ℕ
 begin_refusal p s width places = file_refusal (begin_rows p (head_of s) s width places)
 
-abbrev pub total_refusal : LweDecryptionParameters → List ℕ → List ℕ → List ℕ → ℕ
+abbrev pub total_refusal : LweDecryptionParameters → List ℕ → List ℕ → List LweTag → ℕ
 total_refusal p s xs ts = file_refusal (total_rows p (head_of s) s xs ts)

@@ -9,6 +9,7 @@ ghost use Rattle.pooling_refusals.specs.Rows.{other_fails, OwnHead, size_rows, b
 
 use check_order::{Refusal, Sizes, Values};
 use lwe_parameters::LweDecryptionParameters;
+use lwe_tag::LweTag;
 use primus_lattice::LweDimension;
 use primus_reduce::Modulus;
 use saved_head::Head;
@@ -67,7 +68,7 @@ fn words_refused(q: Modulus, total: &[u32], bytes: &[u8], h: Head) -> bool
     file_words_refused(q, bytes, h.words as usize) | checks::words_refused(q, total)
 }
 
-// 2 to 12, of a total of `len` words and `places` tallies.
+// 2 to 12, of a total of `len` words and `places` tags.
 fn sizes(params: LweDecryptionParameters, h: Head, len: usize, places: usize) -> Sizes
     ensures { JudgesSizes (size_rows params h len places) result }
 {
@@ -77,7 +78,7 @@ fn sizes(params: LweDecryptionParameters, h: Head, len: usize, places: usize) ->
     s
 }
 
-// Stays beside `judged`, and `begin_refusal` beside `total_refusal`: where a total begins, no words and no tallies of it are judged.
+// Stays beside `judged`, and `begin_refusal` beside `total_refusal`: where a total begins, no words and no tags of it are judged.
 fn begin_judged(
     params: LweDecryptionParameters,
     h: Head,
@@ -99,14 +100,14 @@ fn judged(
     h: Head,
     bytes: &[u8],
     total: &[u32],
-    tallies: &[u64],
+    tags: &[LweTag],
 ) -> Result<(), Refusal>
-    ensures { code_of result ≡ refusal (total_rows params h bytes.now total.now tallies.now) }
+    ensures { code_of result ≡ refusal (total_rows params h bytes.now total.now tags.now) }
 {
-    sizes(params, h, total.len(), tallies.len()).judge()?;
+    sizes(params, h, total.len(), tags.len()).judge()?;
     let mut v = Values::default();
     v.word = words_refused(params.modulus, total, bytes, h);
-    v.tally = pooling_rows::tallies_refused(tallies, bytes);
+    v.tally = pooling_rows::tags_refused(tags, bytes);
     v.judge()
 }
 
@@ -129,10 +130,10 @@ pub fn total_refusal(
     params: LweDecryptionParameters,
     bytes: &[u8],
     total: &[u32],
-    tallies: &[u64],
+    tags: &[LweTag],
 ) -> Result<(), Refusal>
-    ensures { code_of result ≡ total_refusal params bytes.now total.now tallies.now }
+    ensures { code_of result ≡ total_refusal params bytes.now total.now tags.now }
 {
     let h = own_head(params, bytes)?;
-    judged(params, h, bytes, total, tallies)
+    judged(params, h, bytes, total, tags)
 }
