@@ -8,12 +8,12 @@ use native.Mathlib.Omega.{arith}
 use lib.ListN.{length}
 use borrow.Author.Tests.{not-false, not-true}
 use Rattle.scheme.specs.Numbers.{tabulate}
-use Rattle.scheme.specs.Tally.{tally_fails}
 use Rattle.scheme.proofs.Checks.{all_at}
 use Rattle.scheme.proofs.Lists.{length-tabulate, get_d_tabulate}
-use Rattle.lwe_tag.specs.Answers.{cap, tally_of}
+use Rattle.lwe_tag.specs.declared.LweTag.{LweTag}
+use Rattle.lwe_tag.specs.Answers.{tag_fails}
 use Rattle.saved.specs.Layout.{saved_tag}
-use Rattle.pooling_rows.specs.Rows.{somewhere, place_fails, tallies_fail, saved_fail}
+use Rattle.pooling_rows.specs.Rows.{somewhere, place_fails, tags_fail, saved_fail}
 
 -- f at none of k places
 spared : (k : ℕ) (f : ℕ → Bool) (i : ℕ) → somewhere k f ≡ false → i < k → f i ≡ false
@@ -21,10 +21,10 @@ spared k f i e h =
     let a = all_at (λ i. not (f i)) 0 (tabulate k (λ i. i)) (not-false _ e) i (omega (arith, length-tabulate k (λ i. i))) in
     not-true (f i) (ap (λ j. not (f j)) (sym (get_d_tabulate k (λ i. i) i h)) ∙ a)
 
-pub place_ok : (ts s : List ℕ) (i : ℕ) → tallies_fail ts s ≡ false → i < length ts → place_fails ts s i ≡ false
-unfolding tallies_fail
+pub place_ok : (ts : List LweTag) (s : List ℕ) (i : ℕ) → tags_fail ts s ≡ false → i < length ts → place_fails ts s i ≡ false
+unfolding tags_fail
 place_ok ts s i e h = spared (length ts) (place_fails ts s) i e h
 
-pub saved_ok : (k : ℕ) (s : List ℕ) (i : ℕ) → saved_fail k s ≡ false → i < k → tally_fails cap (tally_of (saved_tag s i)) ≡ false
+pub saved_ok : (k : ℕ) (s : List ℕ) (i : ℕ) → saved_fail k s ≡ false → i < k → tag_fails (saved_tag s i) ≡ false
 unfolding saved_fail
-saved_ok k s i e h = spared k (λ i. tally_fails cap (tally_of (saved_tag s i))) i e h
+saved_ok k s i e h = spared k (λ i. tag_fails (saved_tag s i)) i e h

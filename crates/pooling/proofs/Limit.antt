@@ -1,5 +1,5 @@
 -- What the calls do with the E of a file's head, bytes 36 to 39: nothing. Files of one length that agree in every other byte are answered
--- alike, and leave the same words and tallies.
+-- alike, and leave the same words and tags.
 --     limit_unread          of add_saved
 --     limit_unread_first    of begin_saved
 -- Assumes nothing.
@@ -10,15 +10,15 @@ use Prim.Native.Nat.{ℕ, ◌+◌, ◌*◌, ◌^◌, ◌≤◌, ◌<◌}
 use native.Mathlib.Omega.{arith}
 use lib.ListN.{length, get_or}
 use Rattle.scheme.specs.Numbers.{tabulate}
-use Rattle.scheme.specs.Tally.{tally_fails}
 use Rattle.scheme.specs.Checks.{Check, applies, all_of}
 use Rattle.scheme.proofs.Lists.{tabulate_ext}
 use Rattle.little_endian.specs.Bytes.{word32, word64}
-use Rattle.lwe_tag.specs.Answers.{cap, tally_of, tag_rows}
+use Rattle.lwe_tag.specs.Answers.{tag_fails, tag_rows}
+use Rattle.lwe_tag.specs.declared.LweTag.{LweTag}
 use Rattle.saved_head.specs.Head.{head_of}
-use Rattle.saved.specs.Layout.{file_word, file_words, saved_tag}
+use Rattle.saved.specs.Layout.{tallies_start, counts_start, file_word, file_words, saved_tag}
 use Rattle.lwe_parameters.specs.declared.parameter.LweDecryptionParameters.{LweDecryptionParameters}
-use Rattle.pooling_rows.specs.Rows.{place_tag, sum_number, place_sum, place_fails, tallies_fail, saved_fail, add_tallies, saved_tallies}
+use Rattle.pooling_rows.specs.Rows.{place_tag, added_tag, place_sum, place_fails, tags_fail, saved_fail, add_tags, saved_tags}
 use Rattle.pooling_refusals.specs.Rows.{own_rows, size_rows, file_refusal, begin_refusal, total_refusal}
 use Rattle.pooling.specs.Total.{BeginsSaved, AddsSaved}
 
@@ -49,11 +49,18 @@ module _ (s u : List ℕ) (len : length s ≡ length u) (before : (k : ℕ) → 
   words_same k = tabulate_ext k (file_word s) (file_word u) (λ i h. late (64 + 4 * i) (omega arith))
 
   tag_same : (i : ℕ) → saved_tag s i ≡ saved_tag u i
-  tag_same i = rw (late 48 (omega arith), late 44 (omega arith), late64 (64 + 4 * word32 u 44 + 8 * i) (omega arith))
+  tag_same i =
+      rw (
+        late 48 (omega arith),
+        late 44 (omega arith),
+        late 40 (omega arith),
+        late64 (tallies_start u + 8 * i) (omega arith),
+        late (counts_start u + 4 * i) (omega arith),
+      )
 
-  tallies_fail_same : (ts : List ℕ) → tallies_fail ts s ≡ tallies_fail ts u
-  unfolding tallies_fail
-  tallies_fail_same ts =
+  tags_fail_same : (ts : List LweTag) → tags_fail ts s ≡ tags_fail ts u
+  unfolding tags_fail
+  tags_fail_same ts =
       ap not
       (all_ext (λ i. not (place_fails ts s i)) (λ i. not (place_fails ts u i)) (tabulate (length ts) (λ i. i))
       (λ i. ap (λ g. not (applies (tag_rows (place_tag ts i) g) 17)) (tag_same i)))
@@ -62,17 +69,17 @@ module _ (s u : List ℕ) (len : length s ≡ length u) (before : (k : ℕ) → 
   unfolding saved_fail
   saved_fail_same k =
       ap not
-      (all_ext (λ i. not (tally_fails cap (tally_of (saved_tag s i)))) (λ i. not (tally_fails cap (tally_of (saved_tag u i)))) (tabulate k (λ i. i))
-      (λ i. ap (λ g. not (tally_fails cap (tally_of g))) (tag_same i)))
+      (all_ext (λ i. not (tag_fails (saved_tag s i))) (λ i. not (tag_fails (saved_tag u i))) (tabulate k (λ i. i))
+      (λ i. ap (λ g. not (tag_fails g)) (tag_same i)))
 
-  add_same : (ts : List ℕ) → add_tallies ts s ≡ add_tallies ts u
-  add_same ts = tabulate_ext (length ts) (place_sum ts s) (place_sum ts u) (λ i h. ap (sum_number (place_tag ts i)) (tag_same i))
+  add_same : (ts : List LweTag) → add_tags ts s ≡ add_tags ts u
+  add_same ts = tabulate_ext (length ts) (place_sum ts s) (place_sum ts u) (λ i h. ap (added_tag (place_tag ts i)) (tag_same i))
 
-  saved_same : (k : ℕ) → saved_tallies k s ≡ saved_tallies k u
-  saved_same k = tabulate_ext k (λ i. (saved_tag s i).tally) (λ i. (saved_tag u i).tally) (λ i h. ap (λ g. g.tally) (tag_same i))
+  saved_same : (k : ℕ) → saved_tags k s ≡ saved_tags k u
+  saved_same k = tabulate_ext k (saved_tag s) (saved_tag u) (λ i h. tag_same i)
 
-  module _ (p : LweDecryptionParameters) (xs ts : List ℕ) where
-    -- what a file is judged by beside its words and tallies
+  module _ (p : LweDecryptionParameters) (xs : List ℕ) (ts : List LweTag) where
+    -- what a file is judged by beside its words and tags
     abbrev judged : List ℕ → ℕ → ℕ → List Check
     judged file width places = own_rows p (head_of file) file ++ size_rows p (head_of file) width places
 
@@ -97,7 +104,7 @@ module _ (s u : List ℕ) (len : length s ≡ length u) (before : (k : ℕ) → 
     unfolding head_of
     total_same =
         ap₂ (λ first rest. file_refusal (first ++ rest)) judged_same
-        (rw (late 44 (omega arith), words_same (word32 u 44), tallies_fail_same ts))
+        (rw (late 44 (omega arith), words_same (word32 u 44), tags_fail_same ts))
 
     begin_same : begin_refusal p s (length xs) (length ts) ≡ begin_refusal p u (length xs) (length ts)
     unfolding head_of
@@ -105,18 +112,18 @@ module _ (s u : List ℕ) (len : length s ≡ length u) (before : (k : ℕ) → 
         ap₂ (λ first rest. file_refusal (first ++ rest)) judged_same
         (rw (late 44 (omega arith), words_same (word32 u 44), saved_fail_same (length ts)))
 
-    pub limit_unread : {r : ℕ} {words tallies : List ℕ} → AddsSaved p s xs ts r words tallies → AddsSaved p u xs ts r words tallies
+    pub limit_unread : {r : ℕ} {words : List ℕ} {tags : List LweTag} → AddsSaved p s xs ts r words tags → AddsSaved p u xs ts r words tags
     limit_unread a =
         record {
           answered = a.answered ∙ total_same;
           adds = a.adds ∙ rw (total_same, words_same (length xs));
-          tallied = a.tallied ∙ rw (total_same, add_same ts);
+          tagged = a.tagged ∙ rw (total_same, add_same ts);
         }
 
-    pub limit_unread_first : {r : ℕ} {words tallies : List ℕ} → BeginsSaved p s xs ts r words tallies → BeginsSaved p u xs ts r words tallies
+    pub limit_unread_first : {r : ℕ} {words : List ℕ} {tags : List LweTag} → BeginsSaved p s xs ts r words tags → BeginsSaved p u xs ts r words tags
     limit_unread_first a =
         record {
           answered = a.answered ∙ begin_same;
           begins = a.begins ∙ rw (begin_same, words_same (length xs));
-          tallied = a.tallied ∙ rw (begin_same, saved_same (length ts));
+          tagged = a.tagged ∙ rw (begin_same, saved_same (length ts));
         }

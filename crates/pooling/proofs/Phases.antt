@@ -1,7 +1,7 @@
 -- What an accepted file does to each place of a total, whatever the other places hold.
 --     added-row      the ciphertext at a place is the sum of the two that meet there
 --     added-phase    its phase is the sum of their phases, under every secret
---     refused_none   a refused file leaves every word and every tally; begun_none: as the first of a total too
+--     refused_none   a refused file leaves every word and every tag; begun_none: as the first of a total too
 -- Assumes nothing.
 use mathlib.Core.Path.{◌≡◌, refl, sym, ap, ◌∙◌, subst}
 use mathlib.Core.List.{List, [], ◌∷◌, zip_with}
@@ -16,6 +16,7 @@ use Rattle.scheme.proofs.Rows.{part_length}
 use Rattle.scheme.proofs.Lwe.{phase-sum}
 use Rattle.primus_reduce.specs.Ring.{size_of}
 use Rattle.saved.specs.Layout.{file_word, file_words}
+use Rattle.lwe_tag.specs.declared.LweTag.{LweTag}
 use Rattle.lwe_parameters.specs.declared.parameter.LweDecryptionParameters.{LweDecryptionParameters}
 use Rattle.pooling_refusals.specs.Rows.{begin_refusal, total_refusal}
 use Rattle.pooling.specs.Total.{BeginsSaved, AddsSaved}
@@ -50,7 +51,7 @@ added-row q n i xs ys =
 
 -- ---- an accepted file, and a refused one
 
-module _ (p : LweDecryptionParameters) (s xs ts : List ℕ) (e : total_refusal p s xs ts ≡ 0) where
+module _ (p : LweDecryptionParameters) (s xs : List ℕ) (ts : List LweTag) (e : total_refusal p s xs ts ≡ 0) where
   pub added-phase : (i : ℕ) → i < length ts → (k : ℕ → ℤ)
       → Cong (size_of p.modulus) (pos (phase_of (size_of p.modulus) p.dimension.0 (row_of p.dimension.0 (add_words (size_of p.modulus) xs (file_words s (length xs))) i) k))
       (pos (phase_of (size_of p.modulus) p.dimension.0 (row_of p.dimension.0 xs i) k)
@@ -64,12 +65,12 @@ module _ (p : LweDecryptionParameters) (s xs ts : List ℕ) (e : total_refusal p
       (phase-sum q (positive p s xs ts e) n (row_of n xs i) (row_of n ys i) k (part_length (n + 1) (length ts) xs i w h)
       (part_length (n + 1) (length ts) ys i (length-tabulate (length xs) (file_word s) ∙ w) h))
 
-pub refused_none : {p : LweDecryptionParameters} {s xs ts words tallies : List ℕ} {r : ℕ} → AddsSaved p s xs ts r words tallies → (r ≡ 0 → ⊥)
-    → (words ≡ xs) × (tallies ≡ ts)
+pub refused_none : {p : LweDecryptionParameters} {s xs words : List ℕ} {ts tags : List LweTag} {r : ℕ} → AddsSaved p s xs ts r words tags → (r ≡ 0 → ⊥)
+    → (words ≡ xs) × (tags ≡ ts)
 refused_none {p} {s} {xs} {ts} a h =
-    let n = ne_eqb (total_refusal p s xs ts) 0 (λ z. h (a.answered ∙ z)) in (a.adds ∙ rw n, a.tallied ∙ rw n)
+    let n = ne_eqb (total_refusal p s xs ts) 0 (λ z. h (a.answered ∙ z)) in (a.adds ∙ rw n, a.tagged ∙ rw n)
 
-pub begun_none : {p : LweDecryptionParameters} {s xs ts words tallies : List ℕ} {r : ℕ} → BeginsSaved p s xs ts r words tallies → (r ≡ 0 → ⊥)
-    → (words ≡ xs) × (tallies ≡ ts)
+pub begun_none : {p : LweDecryptionParameters} {s xs words : List ℕ} {ts tags : List LweTag} {r : ℕ} → BeginsSaved p s xs ts r words tags → (r ≡ 0 → ⊥)
+    → (words ≡ xs) × (tags ≡ ts)
 begun_none {p} {s} {xs} {ts} a h =
-    let n = ne_eqb (begin_refusal p s (length xs) (length ts)) 0 (λ z. h (a.answered ∙ z)) in (a.begins ∙ rw n, a.tallied ∙ rw n)
+    let n = ne_eqb (begin_refusal p s (length xs) (length ts)) 0 (λ z. h (a.answered ∙ z)) in (a.begins ∙ rw n, a.tagged ∙ rw n)

@@ -12,23 +12,24 @@ use lib.Dec.{ltb}
 use lib.ListN.{length, get_or, take, drop, set}
 use lib.Seq.{drop_at}
 use borrow.Author.Tests.{eq-eqb, lt-ltb}
+use Rattle.std.proofs.lemmas.List.{get_or_default}
 use Rattle.scheme.specs.Numbers.{pick, rows_of}
 use Rattle.scheme.specs.Lwe.{add_words, row_of}
 use Rattle.scheme.specs.Checks.{Check, applies, first_in, refusal, all_of, modulus_fails, dimension_fails, length_fails, words_fail}
 use Rattle.scheme.proofs.Checks.{modulus_ok, dimension_ok, length_ok, words_ok}
 use Rattle.scheme.proofs.Order.{passed, neither}
-use Rattle.scheme.proofs.Lists.{length-tabulate, get_d_tabulate}
-use Rattle.scheme.proofs.InPlace.{Filled, filled_start, filled_word, filled_next, length_zip, zip_at}
+use Rattle.scheme.proofs.Lists.{length-tabulate, get_d_tabulate, tabulate_at}
+use Rattle.scheme.proofs.InPlace.{Filled, filled_start, filled_at, filled_with, length_zip, zip_at}
 use Rattle.scheme.proofs.Rows.{Filling, filling_start, filling_room, filling_next, filling_end, rows-length, is-rows, row_within, part_at, part_length, part_below}
 use Rattle.primus_reduce.specs.Ring.{meant, size_of}
 use Rattle.primus_reduce.specs.declared.modulus.Modulus.{Modulus}
 use Rattle.lwe_tag.specs.declared.LweTag.{LweTag}
-use Rattle.lwe_tag.specs.Answers.{tag_rows}
+use Rattle.lwe_tag.specs.Answers.{tag_rows, untallied}
 use Rattle.primus_lattice.specs.Answers.{add_rows}
 use Rattle.saved_head.specs.Head.{head_of}
 use Rattle.saved.specs.Layout.{file_word, file_words, saved_tag}
 use Rattle.lwe_parameters.specs.declared.parameter.LweDecryptionParameters.{LweDecryptionParameters}
-use Rattle.pooling_rows.specs.Rows.{tag_for, place_tag, sum_number, place_sum, add_tallies, words_from, row_at, replaced_row}
+use Rattle.pooling_rows.specs.Rows.{place_tag, added_tag, place_sum, add_tags, words_from, row_at, replaced_row}
 use Rattle.pooling_refusals.specs.Rows.{total_rows, total_refusal}
 use Rattle.pooling_refusals.proofs.Laws.{in_order}
 use Rattle.pooling.proofs.Laws.{place_ok}
@@ -71,7 +72,7 @@ filling_rest {f} {w} {c} {d} {now} {i} r =
 abbrev pub sum_at : ℕ → ℕ → List ℕ → List ℕ → ℕ → List ℕ
 sum_at q w s xs i = add_words q (row_at w xs i) (words_from s (i * w) w)
 
-module _ (p : LweDecryptionParameters) (s xs ts : List ℕ) (e : total_refusal p s xs ts ≡ 0) where
+module _ (p : LweDecryptionParameters) (s xs : List ℕ) (ts : List LweTag) (e : total_refusal p s xs ts ≡ 0) where
   abbrev q : ℕ
   q = size_of p.modulus
 
@@ -153,36 +154,37 @@ module _ (p : LweDecryptionParameters) (s xs ts : List ℕ) (e : total_refusal p
 
   -- ---- the loop: after i turns
 
-  abbrev Turned : List ℕ → List ℕ → ℕ → Type 0
-  Turned now tags i = Filling sums (n + 1) (length ts) xs now i × Filled (add_tallies ts s) ts tags i
+  abbrev Turned : List ℕ → List LweTag → ℕ → Type 0
+  Turned now tags i = Filling sums (n + 1) (length ts) xs now i × Filled (add_tags ts s) ts tags i
 
   pub turns-start : Turned xs ts 0
   turns-start =
-      (filling_start sums (n + 1) (length ts) xs whole sums_length, filled_start (add_tallies ts s) ts (length-tabulate (length ts) (place_sum ts s)))
+      (filling_start sums (n + 1) (length ts) xs whole sums_length, filled_start (add_tags ts s) ts (length-tabulate (length ts) (place_sum ts s)))
 
-  module _ (now tags : List ℕ) (i : ℕ) (r : Turned now tags i) (h : i < length ts) where
-    -- the row and the tally to come are as they were
+  module _ (now : List ℕ) (tags : List LweTag) (i : ℕ) (r : Turned now tags i) (h : i < length ts) where
+    -- the row and the tag to come are as they were
     rest : row_at (n + 1) now i ≡ row_at (n + 1) xs i
     rest = ap (take (n + 1)) (filling_rest r.0)
 
-    kept : get_or tags i 0 ≡ get_or ts i 0
-    kept = filled_word (add_tallies ts s) ts tags i r.1 h
+    -- read with any z past the end
+    kept : (z : LweTag) → get_or tags i z ≡ place_tag ts i
+    kept z = filled_at (add_tags ts s) ts tags i r.1 z h ∙ get_or_default ts i z untallied h
 
-    pub turn_ready : (i * (n + 1) + (n + 1) ≤ length now) × (n + 1 ≤ 2049)
-        × (refusal (add_rows p.modulus n (row_at (n + 1) now i) (tag_for (get_or tags i 0)) (words_from s (i * (n + 1)) (n + 1)) (saved_tag s i)) ≡ 0)
-    turn_ready = (
+    pub turn_ready : (z : LweTag) → (i * (n + 1) + (n + 1) ≤ length now) × (n + 1 ≤ 2049)
+        × (refusal (add_rows p.modulus n (row_at (n + 1) now i) (get_or tags i z) (words_from s (i * (n + 1)) (n + 1)) (saved_tag s i)) ≡ 0)
+    turn_ready z = (
       filling_room r.0 h,
       omega (arith, most),
-      ap₂ (λ (row : List ℕ) (a : ℕ). refusal (add_rows p.modulus n row (tag_for a) (words_from s (i * (n + 1)) (n + 1)) (saved_tag s i))) rest kept ∙ adds_at i h,
+      ap₂ (λ (row : List ℕ) (g : LweTag). refusal (add_rows p.modulus n row g (words_from s (i * (n + 1)) (n + 1)) (saved_tag s i))) rest (kept z) ∙ adds_at i h,
     )
 
-    pub turn_next : (next : List ℕ) (a : ℕ) → next ≡ replaced_row (n + 1) now i (sum_at q (n + 1) s now i)
-        → a ≡ sum_number (tag_for (get_or tags i 0)) (saved_tag s i) → Turned next (set tags i a) (i + 1)
-    turn_next next a en ea = (
+    pub turn_next : (z : LweTag) (next : List ℕ) (g : LweTag) → next ≡ replaced_row (n + 1) now i (sum_at q (n + 1) s now i)
+        → g ≡ added_tag (get_or tags i z) (saved_tag s i) → Turned next (set tags i g) (i + 1)
+    turn_next z next g en eg = (
       filling_next r.0 h next (en ∙ ap (λ row. replaced_row (n + 1) now i (add_words q row (words_from s (i * (n + 1)) (n + 1)))) rest),
-      filled_next (add_tallies ts s) ts tags i r.1 a h
-          (ea ∙ ap (λ b. sum_number (tag_for b) (saved_tag s i)) kept ∙ sym (get_d_tabulate (length ts) (place_sum ts s) i h)),
+      filled_with (add_tags ts s) ts tags i r.1 untallied g h
+          (eg ∙ ap (λ t. added_tag t (saved_tag s i)) (kept z) ∙ sym (tabulate_at untallied (length ts) (place_sum ts s) i h)),
     )
 
-  pub turns_end : (now tags : List ℕ) (i : ℕ) → Turned now tags i → length ts ≤ i → now ≡ add_words q xs ys
+  pub turns_end : (now : List ℕ) (tags : List LweTag) (i : ℕ) → Turned now tags i → length ts ≤ i → now ≡ add_words q xs ys
   turns_end now tags i r h = filling_end r.0 h ∙ all_rows

@@ -6,4 +6,5 @@ mod rows;
 mod total;
 
 pub use lwe_parameters::LweDecryptionParameters;
+pub use lwe_tag::LweTag;
 pub use total::{add_saved, begin_saved};

@@ -3,25 +3,26 @@ ghost use Rattle.std.specs.Prelude.{◌≡◌, length};
 ghost use Rattle.scheme.specs.Lwe.{add_words};
 ghost use Rattle.primus_reduce.specs.Ring.{size_of};
 ghost use Rattle.saved.specs.Layout.{file_words};
-ghost use Rattle.pooling_rows.specs.Rows.{add_tallies};
+ghost use Rattle.pooling_rows.specs.Rows.{add_tags};
 ghost use Rattle.pooling_refusals.specs.Rows.{total_refusal};
 
 use lwe_parameters::LweDecryptionParameters;
+use lwe_tag::LweTag;
 use pooling_rows::add_row;
 
-// Adds each ciphertext of a file to that of its place, and their tallies.
+// Adds each ciphertext of a file to that of its place, and their tags.
 pub(crate) fn add_rows(
     total: &mut [u32],
-    tallies: &mut [u64],
+    tags: &mut [LweTag],
     params: LweDecryptionParameters,
     bytes: &[u8],
 )
-    requires { total_refusal params bytes.now total.old tallies.old ≡ 0 }
+    requires { total_refusal params bytes.now total.old tags.old ≡ 0 }
     ensures { (total.new ≡ add_words (size_of params.modulus) total.old
         (file_words bytes.now (length total.old)))
-        × (tallies.new ≡ add_tallies tallies.old bytes.now) }
+        × (tags.new ≡ add_tags tags.old bytes.now) }
 {
-    for (i, tally) in tallies.iter_mut().enumerate() {
-        *tally = add_row(total, *tally, bytes, i, params.modulus, params.dimension);
+    for (i, tag) in tags.iter_mut().enumerate() {
+        *tag = add_row(total, *tag, bytes, i, params.modulus, params.dimension);
     }
 }
