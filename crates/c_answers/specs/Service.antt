@@ -1,11 +1,10 @@
 -- Answers of one number: "gets one 64-bit number: the message, or 2^32 plus the refusal number."; and answers with a tag.
 use Rattle.std.specs.Prelude.{◌≡◌, Bool, ℕ, ◌+◌, ◌^◌, Result, Ok, Err}
 use Rattle.scheme.specs.Numbers.{pick}
-use Rattle.scheme.specs.Tally.{Absent}
 use Rattle.check_order.specs.declared.refusal.Refusal.{Refusal}
 use Rattle.check_order.specs.Answer.{number_of}
 use Rattle.lwe_tag.specs.declared.LweTag.{LweTag}
-use Rattle.lwe_tag.specs.Answers.{tag_of}
+use Rattle.lwe_tag.specs.Answers.{untallied}
 use Rattle.c_answers.specs.declared.answers.LweOutcome.{LweOutcome}
 
 -- 2^32 plus the refusal number
@@ -25,7 +24,7 @@ pub record Tells {A B : Type 0} (tell : A → B) (promise : A → Type 0) (r : B
 -- 0 and the tag; or the number of the first refusal, and no tally
 abbrev pub outcome_of : Result LweTag Refusal → LweOutcome
 outcome_of (Ok g) = record { refusal = 0; tag = g }
-outcome_of (Err r) = record { refusal = number_of r; tag = tag_of Absent }
+outcome_of (Err r) = record { refusal = number_of r; tag = untallied }
 
 -- 1 where the mark is good
 abbrev pub mark_number : Result Bool Refusal → ℕ

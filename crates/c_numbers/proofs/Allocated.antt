@@ -13,7 +13,7 @@ use Rattle.scheme.proofs.Checks.{dimension_ok, levels_ok}
 use Rattle.scheme.proofs.Order.{passed}
 use Rattle.primus_reduce.specs.Ring.{meant}
 use Rattle.key_switch_parameters.specs.declared.LweKeySwitchingParameters.{LweKeySwitchingParameters}
-use Rattle.key_switch_parameters.specs.Answers.{n_in, m_in, levels_in, key_words, parameter_rows}
+use Rattle.key_switch_parameters.specs.Answers.{n_in, m_in, levels_in, parameter_rows}
 use Rattle.key_switch_parameters.proofs.Passed.{judged}
 use Rattle.c_numbers.specs.Lengths.{dimension_rows, packed_rows}
 

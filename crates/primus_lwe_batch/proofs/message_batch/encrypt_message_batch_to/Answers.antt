@@ -17,4 +17,4 @@ write_messages-requires c =
 pub returns : goal.returns
 returns c =
     let p = lengths _ c.in_ok-encrypt_refusal.ensures in
-    record { writes = done c.in_ok-encrypt_refusal.ensures (rw c.from.ensures at c.with_tally.ensures) (rw (length_ok (length c.args.secret.now) _ p.key) at c.write_messages.ensures) }
+    record { writes = done c.in_ok-encrypt_refusal.ensures c.fresh.ensures (rw (length_ok (length c.args.secret.now) _ p.key) at c.write_messages.ensures) }

@@ -30,7 +30,7 @@ returns c =
     let p = pack_ok _ _ _ _ _ _ (lengths _ c.in_ok-packed_message_refusal.ensures) in
     record {
       writes =
-          done c.in_ok-packed_message_refusal.ensures c.none.ensures
+          done c.in_ok-packed_message_refusal.ensures c.untallied.ensures
           (rw c.ring.ensures at c.write_packed.ensures
           ∙ packed_held _ _ _ _ c.split_at_mut-bodies.result.0.now c.write_encodings.new.bodies _ _ (encodings c.args.embedding c.args.params c.args.messages.now) p.each c.split_at_mut-bodies.ensures.front_len
           (omega (arith, p.fits, c.split_at_mut-bodies.ensures.back_len))

@@ -27,7 +27,7 @@ returns c =
     let p = pack_ok _ _ _ _ _ _ (lengths _ c.in_ok-packed_refusal.ensures) in
     record {
       writes =
-          done c.in_ok-packed_refusal.ensures c.none.ensures
+          done c.in_ok-packed_refusal.ensures c.untallied.ensures
           (c.write_packed.ensures
           ∙ packed_held _ _ _ _ c.split_at_mut-bodies.result.0.now c.copy_from_slice.new.self _ _ (words c.args.plaintexts.now) p.each c.split_at_mut-bodies.ensures.front_len
           (ap length c.copy_from_slice.ensures.after) (λ i h. ap (λ xs. words xs i) c.copy_from_slice.ensures.after));

@@ -14,6 +14,6 @@ pub returns : goal.returns
 returns c =
     record {
       writes =
-          done c.in_ok-encrypt_refusal.ensures (rw c.from.ensures at c.with_tally.ensures)
+          done c.in_ok-encrypt_refusal.ensures c.fresh.ensures
           (rw (mask_ok (length c.args.mask.now) _ _ (lengths _ c.in_ok-encrypt_refusal.ensures)) at c.encrypt_to.ensures);
     }

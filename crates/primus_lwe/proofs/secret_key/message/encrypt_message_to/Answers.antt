@@ -19,6 +19,6 @@ pub returns : goal.returns
 returns c =
     record {
       writes =
-          done c.in_ok-message_refusal.ensures (rw c.from.ensures at c.with_tally.ensures)
+          done c.in_ok-message_refusal.ensures c.fresh.ensures
           (rw (c.ring.ensures, mask_ok (length c.args.mask.now) _ _ (lengths _ c.in_ok-message_refusal.ensures), c.encode_as-plaintext.ensures) at c.encrypt_to.ensures);
     }

@@ -19,4 +19,4 @@ write_public-requires c =
 pub returns : goal.returns
 returns c =
     let coefficients = lent_ok (length c.args.coefficients.now) _ _ _ (lengths _ c.in_ok-public_refusal.ensures) in
-    record { writes = done c.in_ok-public_refusal.ensures c.none.ensures (rw coefficients at c.write_public.ensures) }
+    record { writes = done c.in_ok-public_refusal.ensures c.untallied.ensures (rw coefficients at c.write_public.ensures) }

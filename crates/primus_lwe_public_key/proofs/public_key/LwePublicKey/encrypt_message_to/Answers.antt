@@ -24,6 +24,6 @@ pub returns : goal.returns
 returns c =
     record {
       writes =
-          done c.in_ok-public_message_refusal.ensures c.none.ensures
+          done c.in_ok-public_message_refusal.ensures c.untallied.ensures
           (rw (c.ring.ensures, lent_ok (length c.args.coefficients.now) _ _ _ (lengths _ c.in_ok-public_message_refusal.ensures), c.encode_as-plaintext.ensures) at c.write_public.ensures);
     }
