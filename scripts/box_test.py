@@ -41,8 +41,32 @@ def number(at, value):
     return lambda content: replaced(content, at, struct.pack("<I", value))
 
 
+# where the tallies of four ciphertexts begin, and their numbers c
+TALLIES = word_place(4 * (N + 1))
+COUNTED = TALLIES + 4 * 8
+
+
 def tally(i, value):
-    return lambda content: replaced(content, word_place(4 * (N + 1)) + 8 * i, struct.pack("<Q", value))
+    return lambda content: replaced(content, TALLIES + 8 * i, struct.pack("<Q", value))
+
+
+def encryptions(i, value):
+    """A change of the number c of a ciphertext."""
+    return lambda content: replaced(content, COUNTED + 4 * i, struct.pack("<I", value))
+
+
+def uncounted(content):
+    """The file as a release before the sixth saved it: tallies, and no c."""
+    return number(48, 1)(content)[:COUNTED]
+
+
+def untallied(content):
+    """A c, and no tally: as a switched ciphertext is saved."""
+    return number(48, 2)(content)[:TALLIES] + content[COUNTED:]
+
+
+def bare(content):
+    return number(48, 0)(content)[:TALLIES]
 
 
 class Box:
@@ -94,7 +118,7 @@ def wide():
     files = {
         "switching_key": saved(SWITCHING_KEY, BOX_MODULUS, key, n=n, m=m, base_log=BASE_LOG, levels=basis.L, bound=BOX_E),
         "group_secret": saved(SECRET, BOX_MODULUS, group, n=m),
-        "shop_1": saved(CIPHERTEXTS, BOX_MODULUS, rows, n=n, t=BOX_T, bound=BOX_E, count=4, tallies=[BOX_E] * 4),
+        "shop_1": saved(CIPHERTEXTS, BOX_MODULUS, rows, n=n, t=BOX_T, bound=BOX_E, count=4, tallies=[BOX_E] * 4, counts=[1] * 4),
     }
     assert len(files["switching_key"]) == 65536
     return files
@@ -133,6 +157,8 @@ class Cases:
         self.case("nine heads that claim 2^32 - 1 words", b, refused)
         b.files.update({name: number(48, 1)(number(40, 2**32 - 1)(claim)) for name in SHOPS})
         self.case("nine heads that claim as many tallies too", b, refused)
+        b.files.update({name: number(48, 3)(number(40, 2**32 - 1)(claim)) for name in SHOPS})
+        self.case("nine heads that claim as many tallies and numbers c", b, refused)
         full = saved(CIPHERTEXTS, BOX_MODULUS, [0] * 16368, n=N, t=BOX_T, bound=BOX_E, count=4)
         more = saved(CIPHERTEXTS, BOX_MODULUS, [0] * 16369, n=N, t=BOX_T, bound=BOX_E, count=4)
         b = self.box().drop("shop_4")
@@ -168,14 +194,14 @@ class Cases:
         """The total is the first accepted row, whichever that is."""
         for name in ("shop_1", "shop_2", "shop_8"):
             others = [other for other in SHOPS if other != name]
-            told = [f"{name}: accepted", "rows added: 1"] + [f"  casting {i}: tally 3, marked good" for i in range(1, 5)]
+            told = [f"{name}: accepted", "rows added: 1"] + [f"  casting {i}: tally 3, c 1, marked good" for i in range(1, 5)]
             self.case(f"{name} alone", self.box().drop(*others), told, COUNTS[name])
-        bare = lambda content: number(48, 0)(content)[: word_place(4 * (N + 1))]
-        told = [f"  casting {i}: no tally, not marked good" for i in range(1, 5)]
+        told = [f"  casting {i}: no tally, c 3, not marked good" for i in range(1, 5)]
         for name in ("shop_1", "shop_8"):
-            self.case(f"{name} without tallies", self.box().change(name, bare), told, sums(["shop_1", "shop_2", "shop_8"]))
+            for what, how in (("tallies and c", bare), ("tallies", untallied), ("c", uncounted)):
+                self.case(f"{name} without {what}", self.box().change(name, how), told, sums(["shop_1", "shop_2", "shop_8"]))
         b = self.box().change("shop_1", tally(1, 2**32))
-        told = ["shop_1: accepted", f"shop_2: {TALLY}", f"shop_8: {TALLY}", "  casting 2: tally 4294967296, not marked good"]
+        told = ["shop_1: accepted", f"shop_2: {TALLY}", f"shop_8: {TALLY}", "  casting 2: tally 4294967296, c 1, not marked good"]
         self.case("a first tally of 2^32", b, told, COUNTS["shop_1"])
         for value in (2**32 + 1, 2**64 - 2, 2**64 - 1):
             b = self.box().change("shop_1", tally(1, value))
@@ -183,18 +209,56 @@ class Cases:
         b = self.box().drop(*[name for name in SHOPS if name in ("shop_1", "shop_2", "shop_8")])
         self.case("no row in order", b, [f"shop_9: {OTHER}", "rows added: 0", "no row was accepted, so there is nothing to send"])
 
+    def numbers_of_encryptions(self):
+        """c, as saved and summed: 17 from 65,537 on, and the mark counts a rounding for each."""
+        three = sums(["shop_1", "shop_2", "shop_8"])
+        for value in (65537, 2**31, 2**32 - 1):
+            b = self.box().change("shop_1", encryptions(1, value))
+            self.case(f"a first c of {value}", b, [f"shop_1: {TALLY}", "shop_2: accepted", "  casting 2: tally 6, c 2, marked good"], sums(["shop_2", "shop_8"]))
+            b = self.box().change("shop_8", encryptions(3, value))
+            self.case(f"a c of {value}, added", b, ["shop_2: accepted", f"shop_8: {TALLY}", "rows added: 2", "  casting 4: tally 6, c 2, marked good"], sums(["shop_1", "shop_2"]))
+            b = self.box().change("shop_1", encryptions(1, value)).change("shop_1", uncounted)
+            self.case(f"a c of {value}, cut off: bit 1 alone", b, ["shop_1: accepted", "rows added: 3", "  casting 2: no tally, c 3, not marked good"], three)
+        b = self.box().change("shop_1", encryptions(1, 65536))
+        told = ["shop_1: accepted", f"shop_2: {TALLY}", f"shop_8: {TALLY}", "rows added: 1", "  casting 1: tally 3, c 1, marked good", "  casting 2: tally 3, c 65536, marked good"]
+        self.case("a first c of 65,536", b, told, COUNTS["shop_1"])
+        b = self.box().change("shop_1", encryptions(1, 65535))
+        told = ["shop_2: accepted", f"shop_8: {TALLY}", "rows added: 2", "  casting 1: tally 6, c 2, marked good", "  casting 2: tally 6, c 65536, marked good"]
+        self.case("c of 65,536 in the sum, and one more", b, told, sums(["shop_1", "shop_2"]))
+        b = self.box().change("shop_1", encryptions(0, 65535)).change("shop_2", encryptions(0, 65536))
+        told = ["shop_1: accepted", f"shop_2: {TALLY}", "shop_8: accepted", "  casting 1: tally 6, c 65536, marked good"]
+        self.case("c above 65,536 in the sum, each given below it", b, told, sums(["shop_1", "shop_8"]))
+        b = self.box().change("shop_1", encryptions(0, 0)).change("shop_2", encryptions(0, 0)).change("shop_8", encryptions(0, 0))
+        told = ["  casting 1: tally 9, c 0, marked good", "  casting 2: tally 9, c 3, marked good"]
+        self.case("c = 0", b, told, three)
+        # q is 2^32 − 5: with t = 1,000,003 some 4,277 roundings are as much as the tally of 9 leaves, 2t × 9 + c × t < q
+        money, total = box(CENTS, MONEY), [x % CENTS for x in sums(["shop_1", "shop_2", "shop_8"], MONEY)]
+        most = (BOX_MODULUS - 1 - 2 * CENTS * 9) // CENTS
+        for c, mark in ((most, "marked good"), (most + 1, "not marked good")):
+            b = Box(self.program, money, str(CENTS)).change("shop_8", encryptions(0, c - 2))
+            self.case(f"{c} roundings", b, [f"  casting 1: tally 9, c {c}, {mark}", "  casting 2: tally 9, c 3, marked good"], total)
+
+    def beside(self):
+        """Bits that stand for what is not there, or for what a later release saves."""
+        for bits in (0, 1, 2, 4, 5, 6, 7, 8, 2**31):
+            b = self.box().change("shop_1", number(48, bits))
+            self.case(f"bits {bits} beside words, tallies and c", b, [f"shop_1: {BROKEN}", "shop_2: accepted", "rows added: 2"], sums(["shop_2", "shop_8"]))
+        for size in (1, 4, 16):
+            b = self.box().change("shop_1", lambda content: content[:-size])
+            self.case(f"{size} bytes of the numbers c cut off", b, [f"shop_1: {BROKEN}", "rows added: 2"], sums(["shop_2", "shop_8"]))
+
     def plaintext_moduli(self):
         """t is the argument, or 1,024."""
         stored = self.box().run()
         self.case("t = 1,024 as the argument", Box(self.program, box(), "1024"), alike=stored)
         money = box(CENTS, MONEY)
-        told = ["shop_1: accepted", f"shop_9: {OTHER}", "rows added: 3", "  casting 1: tally 9, marked good"]
+        told = ["shop_1: accepted", f"shop_9: {OTHER}", "rows added: 3", "  casting 1: tally 9, c 3, marked good"]
         total = [x % CENTS for x in sums(["shop_1", "shop_2", "shop_8"], MONEY)]
         self.case("counts in cents", Box(self.program, money, str(CENTS)), told, total)
         self.case("counts in cents, t left out", Box(self.program, money), [f"shop_1: {OTHER}", "rows added: 0"])
         self.case("t = q", Box(self.program, money, str(BOX_MODULUS)), [f"shop_1: {OTHER}"])
         large = Box(self.program, box(2**32 - 6, {name: [2**31] * 4 for name in SHOPS}), str(2**32 - 6))
-        self.case("t = q - 1: the mark says what it is worth", large, ["rows added: 3", "  casting 1: tally 9, not marked good"])
+        self.case("t = q - 1: the mark says what it is worth", large, ["rows added: 3", "  casting 1: tally 9, c 3, not marked good"])
         for word in ("0", "1", "", "x", "-2", "1024 ", "4294967296", "18446744073709552640", "10000000000000000000000"):
             told = [f"shop_1: {OTHER}"]
             self.case(f"t = '{word}'", Box(self.program, money, word), told)
@@ -209,6 +273,8 @@ def main():
     cases.missing()
     cases.heads()
     cases.first_rows()
+    cases.numbers_of_encryptions()
+    cases.beside()
     cases.plaintext_moduli()
     print(f"box_test: {cases.count - cases.failed} passed, {cases.failed} failed")
     sys.exit(1 if cases.failed else 0)

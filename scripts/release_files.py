@@ -10,7 +10,8 @@ scripts/release_files.c writes the files of the releases once more, from the sam
     crates/release_files/data/RELEASE/SETTING/NAME.opens    the messages that it opens to
     crates/pooling_box/data/NAME                            the box's files: some are damaged on purpose
 
-Release 3 is the first that serves plaintext moduli above 65,536 (T-10): its files count in cents.
+Release 3 is the first that serves plaintext moduli above 65,536 (T-10): its files count in cents. Release 6 is the first that saves
+with each ciphertext the number c of encryptions summed in it (T-02); its t divides no q, so that messages are rounded.
 
 The files of a release are never written anew: a later release adds its own beside them.
 """
@@ -27,22 +28,24 @@ from switch_vectors import generated, obeys, switched
 
 SECRET, SIGNED_SECRET, SWITCHING_KEY, PUBLIC_KEY, CIPHERTEXTS, PACKED, MESSAGES = range(1, 8)
 
-# folder, modulus (None is native), t, seed
+# folder, modulus (None is native), t, seed, whether c is saved
 SETTINGS = [
-    ("release_1/native", None, 256, 101), ("release_1/prime", 132120577, 256, 102), ("release_1/power", 2**27, 256, 103),
-    ("release_3/native", None, 1000003, 105), ("release_3/prime", 2**32 - 5, 1000003, 106),
+    ("release_1/native", None, 256, 101, False), ("release_1/prime", 132120577, 256, 102, False), ("release_1/power", 2**27, 256, 103, False),
+    ("release_3/native", None, 1000003, 105, False), ("release_3/prime", 2**32 - 5, 1000003, 106, False),
+    ("release_6/native", None, 1000, 107, True), ("release_6/prime", 132120577, 1000, 108, True), ("release_6/power", 2**27, 1000, 109, True),
 ]
 N, M, BASE_LOG, E = 24, 16, 4, 3
 
 
-def saved(kind, modulus, words, n=0, m=0, base_log=0, levels=0, t=0, bound=0, count=0, tallies=None):
-    """A file: the head of 64 bytes, the words, the tallies."""
+def saved(kind, modulus, words, n=0, m=0, base_log=0, levels=0, t=0, bound=0, count=0, tallies=None, counts=None):
+    """A file: the head of 64 bytes, the words, the tallies, the numbers c."""
+    beside = (0 if tallies is None else 1) + (0 if counts is None else 2)
     head = struct.pack(
-        "<4s15I", b"SGLN", 1, kind, modulus or 0, n, m, base_log, levels, t, bound, count, len(words),
-        0 if tallies is None else 1, 0, 0, 0,
+        "<4s15I", b"SGLN", 1, kind, modulus or 0, n, m, base_log, levels, t, bound, count, len(words), beside, 0, 0, 0,
     )
     body = b"".join(struct.pack("<I", w % 2**32) for w in words)
-    return head + body + b"".join(struct.pack("<Q", x) for x in tallies or [])
+    tail = b"".join(struct.pack("<Q", x) for x in tallies or []) + b"".join(struct.pack("<I", c) for c in counts or [])
+    return head + body + tail
 
 
 class Drawn:
@@ -68,9 +71,10 @@ class Drawn:
 class Setting(Drawn):
     """The files of one modulus, name -> bytes. Most methods draw: the order of the calls decides what is stored."""
 
-    def __init__(self, modulus, t, seed):
+    def __init__(self, modulus, t, seed, counted):
         super().__init__(modulus, seed)
         self.t, self.basis, self.codec, self.files = t, Basis(modulus, BASE_LOG), Codec(modulus, t), {}
+        self.counted = counted
 
     def put(self, name, kind, words, **more):
         self.files[name] = saved(kind, self.modulus, words, **more)
@@ -78,11 +82,12 @@ class Setting(Drawn):
     def put_messages(self, name, messages):
         self.put(name + ".opens", MESSAGES, messages, t=self.t, count=len(messages))
 
-    def put_ciphertexts(self, name, rows, secret, messages, tally=None):
+    def put_ciphertexts(self, name, rows, secret, messages, counts, tallied=True):
+        """Each with its number c of encryptions, and with c times E as its tally where it has one."""
         assert [self.codec.decode(phase_of(self.q, row, secret)) for row in rows] == messages
         words = [w for row in rows for w in row]
-        tallies = None if tally is None else [tally] * len(rows)
-        self.put(name, CIPHERTEXTS, words, n=len(secret), t=self.t, bound=E, count=len(rows), tallies=tallies)
+        beside = dict(tallies=[c * E for c in counts] if tallied else None, counts=counts if self.counted else None)
+        self.put(name, CIPHERTEXTS, words, n=len(secret), t=self.t, bound=E, count=len(rows), **beside)
         self.put_messages(name, messages)
 
     def secrets(self):
@@ -112,21 +117,22 @@ class Setting(Drawn):
         masks, errors, messages = self.words(4 * N), self.errors(4, E), self.messages(4, self.t)
         plain = [self.codec.embed(x, centered) for x in messages]
         rows = rows_of(encrypted_rows(self.q, N, masks, secret, errors, plain), N + 1)
-        self.put_ciphertexts(name, rows, secret, messages, E)
+        self.put_ciphertexts(name, rows, secret, messages, [1] * len(rows))
         return rows, messages
 
-    def summed(self, secret, rows, messages):
-        """Each fresh ciphertext and the one after it, round."""
-        sums = [[(x + y) % self.q for x, y in zip(a, b)] for a, b in zip(rows, rows[1:] + rows[:1])]
-        opened = [(x + y) % self.t for x, y in zip(messages, messages[1:] + messages[:1])]
-        self.put_ciphertexts("summed", sums, secret, opened, 2 * E)
-        return sums, opened
+    def sums(self, name, secret, rows, messages, counts):
+        """At place i the sum of counts[i] fresh ciphertexts, from the one at i on, round."""
+        runs = [[(i + k) % len(rows) for k in range(c)] for i, c in enumerate(counts)]
+        sums = [[sum(column) % self.q for column in zip(*(rows[k] for k in run))] for run in runs]
+        opened = [sum(messages[k] for k in run) % self.t for run in runs]
+        self.put_ciphertexts(name, sums, secret, opened, counts)
+        return sums, opened, counts
 
     def packed(self, secret):
         mask, errors, messages = self.words(N), self.errors(N // 2, E), self.messages(N // 2, self.t)
         words = packed(self.q, N, mask, secret, errors, [self.codec.embed(x, False) for x in messages])
         assert [self.codec.decode(p) for p in packed_phases(self.q, N, words, secret)] == messages
-        self.put("packed", PACKED, words, n=N, t=self.t, bound=E, count=len(messages))
+        self.put("packed", PACKED, words, n=N, t=self.t, bound=E, count=len(messages), counts=[1] if self.counted else None)
         self.put_messages("packed", messages)
 
     def public(self, secret, key):
@@ -134,26 +140,29 @@ class Setting(Drawn):
         for message in messages:
             errors, coefficients = self.errors(N + 1, E), self.ternary(N)
             rows.append(public_encrypted(self.q, N, key, errors, coefficients, self.codec.embed(message, False)))
-        self.put_ciphertexts("public", rows, secret, messages)
+        self.put_ciphertexts("public", rows, secret, messages, [1] * len(rows), tallied=False)
 
-    def switched(self, name, key, group, rows, messages):
-        self.put_ciphertexts(name, [switched(self.basis, N, M, key, x) for x in rows], group, messages)
+    def switched(self, name, key, group, rows, messages, counts):
+        self.put_ciphertexts(name, [switched(self.basis, N, M, key, x) for x in rows], group, messages, counts, tallied=False)
 
 
-def setting(modulus, t, seed):
+def setting(modulus, t, seed, counted):
     """The files of one modulus: name -> bytes."""
-    s = Setting(modulus, t, seed)
+    s = Setting(modulus, t, seed, counted)
     secret, signed, group = s.secrets()
     key = s.switching_key("switching_key", secret, group)
     signed_key = s.switching_key("signed_switching_key", signed, group)
     public = s.public_key(secret)
     fresh = s.fresh("fresh", secret, False)
     signed_fresh = s.fresh("signed_fresh", signed, True)
-    summed = s.summed(secret, *fresh)
+    summed = s.sums("summed", secret, *fresh, [2, 2, 2, 2])
     s.packed(secret)
     s.public(secret, public)
     s.switched("switched", key, group, *summed)
-    s.switched("signed_switched", signed_key, group, *signed_fresh)
+    s.switched("signed_switched", signed_key, group, *signed_fresh, [1, 1, 1, 1])
+    if counted:
+        total = s.sums("total", secret, *fresh, [1, 4, 7, 3])
+        s.switched("switched_total", key, group, *total)
     return s.files
 
 
@@ -190,7 +199,7 @@ def box(t=BOX_T, rows=COUNTS):
         n = N - 4 if name == "shop_5" else N
         masks, errors = d.words(4 * n), d.errors(4, BOX_E)
         words = encrypted_rows(q, n, masks, secret[:n], errors, [codec.encode(x) for x in counts])
-        shape = dict(n=n, t=t, bound=BOX_E, count=4, tallies=[BOX_E] * 4)
+        shape = dict(n=n, t=t, bound=BOX_E, count=4, tallies=[BOX_E] * 4, counts=[1] * 4)
         files[name] = saved(CIPHERTEXTS, BOX_MODULUS, words, **shape)
 
     # damaged in different ways; shop_5 has another dimension, see above
@@ -204,8 +213,8 @@ def box(t=BOX_T, rows=COUNTS):
 
 def main():
     files = {f"crates/pooling_box/data/{name}": content for name, content in box().items()}
-    for folder, modulus, t, seed in SETTINGS:
-        for file, content in setting(modulus, t, seed).items():
+    for folder, modulus, t, seed, counted in SETTINGS:
+        for file, content in setting(modulus, t, seed, counted).items():
             files[f"crates/release_files/data/{folder}/{file}"] = content
     write_or_check(files)
 

@@ -5,14 +5,13 @@ use check_order::Refusal;
 use pooling::{LweDecryptionParameters, add_saved, begin_saved};
 use primus_lattice::LweTag;
 
-// The words of the total, the number of a tag for each place, and how many rows were added.
-// Stays: tallies as numbers of tags, beside the words: `pooling` is lent them so, as C and files hold a tag; and rows 0 for a total that has
-// not begun, no Option: it is printed.
+// The words of the total, a tag for each place, and how many rows were added.
+// Stays: tags beside the words: `pooling` is lent them so; and rows 0 for a total that has not begun, no Option: it is printed.
 #[derive(Drop)]
 pub(crate) struct Pool<'a> {
     pub(crate) params: LweDecryptionParameters,
     pub(crate) total: &'a mut [u32],
-    pub(crate) tallies: [u64; PLACES],
+    pub(crate) tags: [LweTag; PLACES],
     pub(crate) rows: u32,
 }
 
@@ -20,21 +19,20 @@ impl Pool<'_> {
     // The first row that is accepted is the total, and the others are added to it. A row goes in whole, or not at all.
     pub(crate) fn add(&mut self, row: &[u8]) -> Result<(), Refusal> {
         if self.rows == 0 {
-            begin_saved(self.params, row, self.total, &mut self.tallies)?;
+            begin_saved(self.params, row, self.total, &mut self.tags)?;
         } else {
-            add_saved(self.params, row, self.total, &mut self.tallies)?;
+            add_saved(self.params, row, self.total, &mut self.tags)?;
         }
         self.rows = self.rows.saturating_add(1);
         Ok(())
     }
 
-    // The mark of each place. It counts one rounding, however many rows were added.
+    // What each place carries, and its mark.
     pub(crate) fn print_marks(&self, rt: &impl Print) {
-        for (i, number) in self.tallies.iter().enumerate() {
-            let tag = LweTag::with_tally(*number);
+        for (i, tag) in self.tags.iter().enumerate() {
             let _ = match tag.tally() {
-                None => print!(rt; "  casting {}: no tally", i + 1),
-                Some(a) => print!(rt; "  casting {}: tally {a}", i + 1),
+                None => print!(rt; "  casting {}: no tally, c {}", i + 1, tag.count()),
+                Some(a) => print!(rt; "  casting {}: tally {a}, c {}", i + 1, tag.count()),
             };
             match tag.is_good(self.params.modulus, self.params.plaintext_modulus) {
                 Ok(good) => print_good(rt, good),

@@ -7,7 +7,7 @@ use key_switch::key_switch_batch_to;
 use key_switch_parameters::LweKeySwitchingParameters;
 use pooling::LweDecryptionParameters;
 use primus_decompose::ApproxSignedBasis;
-use primus_lattice::LweDimension;
+use primus_lattice::{LweDimension, LweTag};
 use primus_reduce::Modulus;
 use saved_files::{ROOM, Stored};
 use saved_head::{Head, Kind};
@@ -52,7 +52,7 @@ fn serve<'a>(
     let mut pool = Pool {
         params: agreed,
         total,
-        tallies: [0; PLACES],
+        tags: [LweTag::untallied(); PLACES],
         rows: 0,
     };
     collect(rt, &mut pool);
@@ -61,7 +61,8 @@ fn serve<'a>(
         return None;
     }
     let _ = println!(rt; "the box switches the total to the group's key and sends it on");
-    if let Err(reason) = key_switch_batch_to(params, key, pool.total, room) {
+    let mut tags = pool.tags;
+    if let Err(reason) = key_switch_batch_to(params, key, pool.total, &mut tags, room) {
         reasons::told(rt, "the switch", Err(reason));
         return None;
     }

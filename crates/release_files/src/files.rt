@@ -1,6 +1,8 @@
 // The files of a release, and the line that the program writes about each.
 use check_order::Refusal;
-use saved_files::{Loaded, SavedWord};
+use primus_lattice::LweTag;
+use saved_files::{Loaded, SavedWord, TAGS};
+use saved_head::{Head, Kind};
 use std::alloc::AllocError;
 use std::fmt;
 
@@ -35,6 +37,15 @@ pub(crate) fn agrees(as_saved: bool) -> Result<(), Fault> {
     }
 }
 
+// The tags of its ciphertexts: a packed one has one, and what is no ciphertext none.
+pub(crate) fn tags_of(h: Head, tags: &[LweTag; TAGS]) -> &[LweTag] {
+    match h.kind {
+        Kind::Ciphertexts => &tags[..TAGS.min(h.count as usize)],
+        Kind::Packed => &tags[..1],
+        _ => &[],
+    }
+}
+
 // The files of one modulus. Stays: no method for each kind of file: it would stand in the modules of keys and of ciphertexts all the same.
 #[derive(Clone, Copy)]
 pub(crate) struct Folder<'a> {
@@ -54,7 +65,31 @@ impl Folder<'_> {
         Ok(saved_files::load(self.rt, path.as_str(), words))
     }
 
-    // "folder/name: kind 5, 100 words, tally 3 (good), checksum 1234: "; a refusal by its number alone, as at the end.
+    // ", tally 3, c 1 (good)"; a refusal by its number alone, as at the end of a line.
+    fn tell_tag(self, h: Head, tag: LweTag) {
+        let _ = match tag.tally() {
+            Some(tally) => print!(self.rt; ", tally {tally}, c {}", tag.count()),
+            None => print!(self.rt; ", no tally, c {}", tag.count()),
+        };
+        let _ = match tag.is_good(h.modulus, h.plaintext_modulus) {
+            Ok(true) => print!(self.rt; " (good)"),
+            Ok(false) => print!(self.rt; " (not good)"),
+            Err(reason) => print!(self.rt; " refused {}", u32::from(reason)),
+        };
+    }
+
+    // The first tag, and each that differs from the one before it.
+    fn tell_tags(self, h: Head, tags: &[LweTag]) {
+        let mut before = None;
+        for tag in tags {
+            if before != Some(*tag) {
+                self.tell_tag(h, *tag);
+            }
+            before = Some(*tag);
+        }
+    }
+
+    // "folder/name: kind 5, 100 words, tally 3, c 1 (good), checksum 1234: ".
     pub(crate) fn begin<W: SavedWord>(self, name: &str, l: Loaded<W>) {
         let _ = print!(self.rt;
             "{}{name}: kind {}, {} words",
@@ -62,14 +97,7 @@ impl Folder<'_> {
             u32::from(l.head.kind),
             l.head.words
         );
-        if let Some(tally) = l.tag.tally() {
-            let _ = print!(self.rt; ", tally {tally}");
-            let _ = match l.tag.is_good(l.head.modulus, l.head.plaintext_modulus) {
-                Ok(true) => print!(self.rt; " (good)"),
-                Ok(false) => print!(self.rt; " (not good)"),
-                Err(reason) => print!(self.rt; " refused {}", u32::from(reason)),
-            };
-        }
+        self.tell_tags(l.head, tags_of(l.head, &l.tags));
         let _ = print!(self.rt; ", checksum {}: ", l.checksum);
     }
 

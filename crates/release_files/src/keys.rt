@@ -1,12 +1,12 @@
 // Keys, each tried on what it was made for.
-use crate::files::{Fault, Folder, agrees};
+use crate::files::{Fault, Folder, agrees, tags_of};
 use check_order::Refusal;
 use key_switch::key_switch_batch_to;
 use key_switch_parameters::LweKeySwitchingParameters;
 use primus_lattice::LweDimension;
 use primus_lwe::LwePhaseParameters;
 use primus_lwe_batch::decrypt_phase_batch_to;
-use saved_files::{Loaded, SavedWord};
+use saved_files::{Loaded, SavedWord, TAGS};
 use saved_head::{Head, Kind};
 use std::alloc::AllocError;
 
@@ -71,7 +71,7 @@ pub(crate) fn public_key(folder: Folder, name: &str, secret: &str) -> Result<(),
     Ok(())
 }
 
-// The key switches the saved input to the saved output, word for word.
+// The key switches the saved input to the saved output, word for word, and tag for tag.
 fn switch_verdict(key: Loaded<u32>, input: Loaded<u32>, output: Loaded<u32>) -> Result<(), Fault> {
     key.refusal?;
     let h = key.head;
@@ -79,8 +79,11 @@ fn switch_verdict(key: Loaded<u32>, input: Loaded<u32>, output: Loaded<u32>) -> 
     let mut room = [0u32; 8192];
     let count = room.len().min(output.words.len());
     let out = &mut room[..count];
-    key_switch_batch_to(params, key.words, input.words, out)?;
+    let mut tags = input.tags;
+    let given = &mut tags[..TAGS.min(input.head.count as usize)];
+    key_switch_batch_to(params, key.words, input.words, given, out)?;
     agrees(programs::same(out, output.words, output.head.words as usize))?;
+    agrees(*given == *tags_of(output.head, &output.tags))?;
     agrees(h.kind == Kind::SwitchingKey)
 }
 

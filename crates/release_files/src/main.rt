@@ -57,6 +57,21 @@ fn switched(folder: Folder) -> Result<(), AllocError> {
     Ok(())
 }
 
+// Sums of other numbers of encryptions, which a release saves from the sixth on.
+fn summed(folder: Folder) -> Result<(), AllocError> {
+    let mut words = [0u32; 8192];
+    ciphertexts::opened(folder, "total", "secret", &mut words)?;
+    keys::switching_key(folder, "switching_key", "total", "switched_total")?;
+    ciphertexts::opened(folder, "switched_total", "group_secret", &mut words)
+}
+
+// The files that every release has saved.
+fn told(folder: Folder) -> Result<(), AllocError> {
+    tried(folder)?;
+    opened(folder)?;
+    switched(folder)
+}
+
 fn main(rt: HostRuntime) -> Result<(), AllocError> {
     for path in [
         "release_1/native/",
@@ -65,10 +80,12 @@ fn main(rt: HostRuntime) -> Result<(), AllocError> {
         "release_3/native/",
         "release_3/prime/",
     ] {
+        told(Folder { rt: &rt, path })?;
+    }
+    for path in ["release_6/native/", "release_6/prime/", "release_6/power/"] {
         let folder = Folder { rt: &rt, path };
-        tried(folder)?;
-        opened(folder)?;
-        switched(folder)?;
+        told(folder)?;
+        summed(folder)?;
     }
     Ok(())
 }

@@ -36,16 +36,19 @@ impl fmt::Display for Stored {
     }
 }
 
-// A file's refusal and why, its head, the tag of its first ciphertext, the checksum of its bytes, its words, and the room that they
+// Of how many ciphertexts a program is told the tags.
+pub const TAGS: usize = 4;
+
+// A file's refusal and why, its head, the tags of its first ciphertexts, the checksum of its bytes, its words, and the room that they
 // stand in, with what follows them in the file and then zeros.
-// Stays: no Result: of a refused file the head, the tag and the checksum are told too; and both refusal and stored:
+// Stays: no Result: of a refused file the head, the tags and the checksum are told too; and both refusal and stored:
 // the one is what a call answers, the other why, in words.
 #[derive(Clone, Copy)]
 pub struct Loaded<'a, W> {
     pub refusal: Result<(), Refusal>,
     pub stored: Stored,
     pub head: Head,
-    pub tag: LweTag,
+    pub tags: [LweTag; TAGS],
     pub checksum: u32,
     pub words: &'a [W],
     pub room: &'a [W],
@@ -70,6 +73,14 @@ pub fn stored_as(file: Option<&[u8]>) -> Stored
     }
 }
 
+fn first_tags(bytes: &[u8]) -> [LweTag; TAGS] {
+    let mut tags = [LweTag::untallied(); TAGS];
+    for (i, tag) in tags.iter_mut().enumerate() {
+        *tag = saved::tag_at(bytes, i);
+    }
+    tags
+}
+
 // A file with its words, as many as there is room for.
 pub fn load<'a, W: SavedWord>(
     rt: &(impl Files + Eprint),
@@ -86,7 +97,7 @@ pub fn load<'a, W: SavedWord>(
         refusal: saved_head::file_refusal(bytes),
         stored: stored_as(file),
         head,
-        tag: saved::tag_at(bytes, 0),
+        tags: first_tags(bytes),
         checksum: checksum(bytes),
         words: &words[..count],
         room: words,
