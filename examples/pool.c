@@ -1,7 +1,7 @@
 /*
  * Three shops send encrypted counts of worn parts. The box adds them without opening any, marks the sums, and switches them
- * to the buyers' key; the buyers open the totals. Rows that are cut short, or have a tally that cannot be, are refused and touch
- * nothing.
+ * to the buyers' key; the buyers open the totals. Rows that are cut short, or have a tally or a number of encryptions that cannot be,
+ * are refused and touch nothing.
  * scripts/c_test.sh builds this and compares its output with pool.out.
  */
 #include <inttypes.h>
@@ -15,7 +15,7 @@ enum {
     MODULUS = 0, /* native: 2^32 */
     N = 64,      /* dimension of the shops' key */
     M = 32,      /* dimension of the buyers' key */
-    T = 1024,    /* totals are below this */
+    T = 1000,    /* totals are below this; it need not divide the modulus */
     BOUND = 16,  /* errors lie within -BOUND .. BOUND */
     BASE_LOG = 4,
     LEVELS = 7,
@@ -84,11 +84,12 @@ static saigagalena_tag written(const char *what, saigagalena_answer answer)
 
 /* --- A shop --- */
 
-/* What a shop sends: the words, how many they are, and the tally of each ciphertext. */
+/* What a shop sends: the words, how many they are, and the tally and c of each ciphertext. */
 struct row {
     uint32_t words[ROW];
     size_t len;
     uint64_t tally;
+    uint32_t count;
 };
 
 static void encrypt_row(const uint32_t key[N], const uint32_t counts[PARTS], struct row *row)
@@ -98,10 +99,12 @@ static void encrypt_row(const uint32_t key[N], const uint32_t counts[PARTS], str
 
     example_mask(masks, PARTS * N);
     example_errors(errors, PARTS);
-    row->tally = written("encrypt_message_batch",
-                         saigagalena_encrypt_message_batch(MODULUS, N, T, BOUND, 0, key, N, masks, PARTS * N, errors, PARTS,
-                                                           counts, PARTS, row->words, ROW))
-                     .tally;
+    const saigagalena_tag tag = written("encrypt_message_batch",
+                                        saigagalena_encrypt_message_batch(MODULUS, N, T, BOUND, 0, key, N, masks, PARTS * N, errors,
+                                                                          PARTS, counts, PARTS, row->words, ROW));
+
+    row->tally = tag.tally;
+    row->count = tag.count;
     row->len = ROW;
 }
 
@@ -111,8 +114,13 @@ static void encrypt_row(const uint32_t key[N], const uint32_t counts[PARTS], str
 struct pool {
     uint32_t sums[ROW];
     saigagalena_tag tag;
-    int rows;
 };
+
+/* Words of 0: the sum of no encryption, with no error. */
+static struct pool empty_pool(void)
+{
+    return (struct pool){{0}, saigagalena_saved_tag(0, 0)};
+}
 
 /*
  * Adds a row that came from outside, or refuses it by a number. Each call touches nothing where it refuses; that the whole row
@@ -120,7 +128,7 @@ struct pool {
  */
 static uint32_t add_row(struct pool *pool, const struct row *row)
 {
-    const saigagalena_tag tag = saigagalena_saved_tag(row->tally); /* the shop's word */
+    const saigagalena_tag tag = saigagalena_saved_tag(row->tally, row->count); /* the shop's word */
     struct pool next = *pool;
 
     for (size_t part = 0; part < PARTS; part++) {
@@ -134,15 +142,11 @@ static uint32_t add_row(struct pool *pool, const struct row *row)
             return answer.refusal;
         next.tag = answer.tag;
     }
-    /* before the first row there are words of 0 without a tally: the sum is the row, so its tag is the row's */
-    if (pool->rows == 0)
-        next.tag = tag;
-    next.rows++;
     *pool = next;
     return 0;
 }
 
-/* A sum that is marked good opens to the total, as long as that is below T; T divides 2^32, so encodings add up exactly. */
+/* A sum that is marked good opens to the total modulo T: to the total itself, as long as that is below T. */
 static int is_good(saigagalena_tag tag)
 {
     return answered("is_good", saigagalena_is_good(MODULUS, T, tag)) == 1;
@@ -197,32 +201,46 @@ static void pool_rows(const uint32_t shops_key[N], struct pool *pool)
     row.len = ROW;
     row.tally = UINT64_C(1) << 33;
     refuse_row("a bad tally", pool, &row);
-    const int same = memcmp(before.sums, pool->sums, sizeof before.sums) == 0 && before.tag.tally == pool->tag.tally;
+    row.tally = BOUND;
+    row.count = SAIGAGALENA_MOST_SUMMED + 1;
+    refuse_row("a bad c", pool, &row);
+    const int same = memcmp(before.sums, pool->sums, sizeof before.sums) == 0 && before.tag.tally == pool->tag.tally
+        && before.tag.count == pool->tag.count;
 
     printf("the sums     %s\n", same ? "are as before" : "HAVE CHANGED");
+}
+
+/* The sums under the buyers' key. Each has the tag of the pool, and afterwards its own: they differ in nothing here. */
+static saigagalena_tag switch_sums(const uint32_t key[ENTRIES * SWITCHED], const struct pool *pool, uint32_t switched[PARTS * SWITCHED])
+{
+    saigagalena_tag tags[PARTS];
+
+    for (size_t part = 0; part < PARTS; part++)
+        tags[part] = pool->tag;
+    must("key_switch_batch", saigagalena_key_switch_batch(MODULUS, BASE_LOG, LEVELS, N, M, key, ENTRIES * SWITCHED, pool->sums, ROW,
+                                                          tags, PARTS, switched, PARTS * SWITCHED));
+    return tags[0];
 }
 
 int main(void)
 {
     static uint32_t switching_key[ENTRIES * SWITCHED];
     uint32_t shops_key[N], buyers_key[M], switched[PARTS * SWITCHED], totals[PARTS];
-    struct pool pool = {{0}, saigagalena_saved_tag(SAIGAGALENA_NO_TALLY), 0};
+    struct pool pool = empty_pool();
 
     example_key(shops_key, N);
     example_key(buyers_key, M);
     make_switching_key(shops_key, buyers_key, switching_key);
 
     pool_rows(shops_key, &pool);
-    printf("the tally    %" PRIu64 ", %s\n", pool.tag.tally, is_good(pool.tag) ? "marked good" : "NOT marked good");
+    printf("the tally    %" PRIu64 " of %" PRIu32 " encryptions, %s\n", pool.tag.tally, pool.tag.count,
+           is_good(pool.tag) ? "marked good" : "NOT marked good");
 
     /* The switch adds an error of at most H * (sum of the key) + n * L * (B/2) * BOUND, here 8 * 64 + 64 * 7 * 8 * 16 = 57856.
-     * With the tally that is far below q / 2t = 2097152, so the totals still open; choose parameters with such room. */
-    const saigagalena_tag tag = written("key_switch_batch",
-                                        saigagalena_key_switch_batch(MODULUS, BASE_LOG, LEVELS, N, M, switching_key,
-                                                                     ENTRIES * SWITCHED, pool.sums, ROW, switched,
-                                                                     PARTS * SWITCHED));
+     * With the tally and c / 2 that is far below q / 2t = 2147483, so the totals still open; choose parameters with such room. */
+    const saigagalena_tag tag = switch_sums(switching_key, &pool, switched);
 
-    printf("switched     %s\n", is_good(tag) ? "MARKED" : "no mark: a switched ciphertext has no tally");
+    printf("switched     %" PRIu32 " encryptions still; %s\n", tag.count, is_good(tag) ? "MARKED" : "no mark: there is no tally");
     must("decrypt_message_batch", saigagalena_decrypt_message_batch(MODULUS, M, T, buyers_key, M, switched, PARTS * SWITCHED,
                                                                     totals, PARTS));
     print_counts("the totals", totals);

@@ -14,8 +14,9 @@
  *   p, p_len     a slice: p_len elements from p on. The pointer may be null where the length is 0.
  *
  * A call that writes ciphertexts returns a saigagalena_answer: 0 and the tag of what was written, or the first refusal number
- * that applies and a tag without a tally. Another call that writes returns 0 or that number. A call that answers one number
- * returns it as 64 bits, or SAIGAGALENA_REFUSED plus the first refusal number that applies. A refused call has written nothing.
+ * that applies and a tag without a tally (c is 1 in it). Another call that writes, the batch of switches among them, returns 0 or
+ * that number. A call that answers one number returns it as 64 bits, or SAIGAGALENA_REFUSED plus the first refusal number that
+ * applies. A refused call has written nothing.
  * Every length and every number is judged, and before a slice is read: a call that is refused by 1 to 13 or 26 has not touched one.
  * What no number can say is the caller's to see to: each pointer is aligned for its elements and good for its length, a buffer
  * that is written overlaps no other, and no other thread writes a buffer during a call.
@@ -30,13 +31,16 @@
 #include <stdint.h>
 
 /* The release that this header is of; saigagalena_version() says which one the library is of. */
-#define SAIGAGALENA_VERSION 5
+#define SAIGAGALENA_VERSION 6
 
 /* An answer of 64 bits above this is a refusal: this plus the refusal number. */
 #define SAIGAGALENA_REFUSED UINT64_C(0x100000000)
 
 /* 2^64 - 1: no tally. A public-key, packed or switched ciphertext has none, and a sum with one that has none has none. */
 #define SAIGAGALENA_NO_TALLY UINT64_MAX
+
+/* The most encryptions that may be summed in a ciphertext: a greater c, given or summed, is refused by 17. */
+#define SAIGAGALENA_MOST_SUMMED 65536
 
 /* Refusal numbers. Where several apply, the first in the order of document 01 is given: of these the smallest, with 26 between 5 and 6. */
 #define SAIGAGALENA_BASE_LOG 1            /* the base log is below 2 or above 31 */
@@ -50,12 +54,12 @@
 #define SAIGAGALENA_KEY_LENGTH 9          /* a key has another length than its dimensions and levels give */
 #define SAIGAGALENA_INPUT_LENGTH 10       /* ciphertexts of the wrong length, more than n packed messages, no such body */
 #define SAIGAGALENA_OUTPUT_LENGTH 11      /* an output has the wrong length */
-#define SAIGAGALENA_LENT_LENGTH 12        /* masks, errors or coefficients have the wrong length */
+#define SAIGAGALENA_LENT_LENGTH 12        /* masks, errors, coefficients or tags have the wrong length */
 #define SAIGAGALENA_ERROR_LIMIT 13        /* E is above 1048576, or not below the modulus */
 #define SAIGAGALENA_WORD_NOT_BELOW_Q 14   /* a word, or a signed key number's magnitude, is not below q */
 #define SAIGAGALENA_ERROR_OUTSIDE 15      /* an error is outside -E .. E, or a coefficient none of -1, 0, 1 */
 #define SAIGAGALENA_MESSAGE_NOT_BELOW_T 16 /* a message is not below t */
-#define SAIGAGALENA_TALLY 17              /* a tally, given or summed, exceeds 2^32 */
+#define SAIGAGALENA_TALLY 17              /* a tally, given or summed, exceeds 2^32, or a number of encryptions 65536 */
 #define SAIGAGALENA_LARGE_MODULUS 26      /* counts of words: the modulus is above 65536 and no power of two */
 
 /* A refusal number in words; 0 is none. 18 and 19 are given by programs only. */
@@ -74,12 +78,12 @@ static inline const char *saigagalena_refusal_text(uint32_t refusal)
         "a key has the wrong length",
         "ciphertexts of the wrong length, too many packed messages, or no such body",
         "an output has the wrong length",
-        "masks, errors or coefficients have the wrong length",
+        "masks, errors, coefficients or tags have the wrong length",
         "the error limit is above 1048576 or not below the modulus",
         "a word, or the magnitude of a signed key number, is not below the modulus",
         "an error is outside its limit, or a coefficient is none of -1, 0, 1",
         "a message is not below the plaintext modulus",
-        "a tally, given or summed, exceeds 2^32",
+        "a tally, given or summed, exceeds 2^32, or a number of encryptions 65536",
         "a word command before any accepted basis",
         "an unknown command, operands cut off, or not a whole file of this kind",
     };
@@ -94,14 +98,15 @@ extern "C" {
 #endif
 
 /*
- * What a ciphertext carries beside its words: its tally, which bounds its error, or SAIGAGALENA_NO_TALLY. Keep it with the words.
- * It comes from the answer of the call that wrote them, or from saved data by saigagalena_saved_tag, and from nowhere else.
+ * What a ciphertext carries beside its words. Keep it with them. It comes from the call that wrote them, or from saved data by
+ * saigagalena_saved_tag or saigagalena_uncounted_tag, and from nowhere else.
  */
 typedef struct {
-    uint64_t tally;
+    uint64_t tally; /* bounds its error; SAIGAGALENA_NO_TALLY where it has none */
+    uint32_t count; /* c, the number of encryptions summed in it: 1 when fresh, kept by a switch */
 } saigagalena_tag;
 
-/* What a call that writes ciphertexts returns: 0 and the tag of each, or the first refusal number and no tally. */
+/* What a call that writes ciphertexts returns: 0 and the tag of each, or the first refusal number, no tally and c 1. */
 typedef struct {
     uint32_t refusal;
     saigagalena_tag tag;
@@ -158,7 +163,7 @@ uint32_t saigagalena_decode_slice(uint32_t modulus, uint32_t t, const uint32_t *
 /* ---- encryption under a secret key: n words below q, or n signed numbers, each standing for itself modulo q */
 
 /* out: the mask, then <mask, secret> + error + plaintext modulo q. The mask has n words, the errors one.
- * Tag: the tally is E. Refuse by 2, 6, 9, 11, 12, 13, 14, 15. */
+ * Tag: the tally is E, c is 1. Refuse by 2, 6, 9, 11, 12, 13, 14, 15. */
 saigagalena_answer saigagalena_encrypt_encoded(uint32_t modulus, size_t n, uint32_t error_limit, const uint32_t *secret,
                                                size_t secret_len, const uint32_t *mask, size_t mask_len, const int32_t *errors,
                                                size_t errors_len, uint32_t plaintext, uint32_t *out, size_t out_len);
@@ -167,7 +172,7 @@ saigagalena_answer saigagalena_encrypt_encoded_signed(uint32_t modulus, size_t n
                                                       const int32_t *errors, size_t errors_len, uint32_t plaintext, uint32_t *out,
                                                       size_t out_len);
 
-/* The same of an encoded message. Tag: the tally is E. Refuse by 2, 6, 7, 8, 9, 11, 12, 13, 14, 15, 16. */
+/* The same of an encoded message. Tag: the tally is E, c is 1. Refuse by 2, 6, 7, 8, 9, 11, 12, 13, 14, 15, 16. */
 saigagalena_answer saigagalena_encrypt_message(uint32_t modulus, size_t n, uint32_t t, uint32_t error_limit, uint32_t centered,
                                                const uint32_t *secret, size_t secret_len, const uint32_t *mask, size_t mask_len,
                                                const int32_t *errors, size_t errors_len, uint32_t message, uint32_t *out,
@@ -177,16 +182,16 @@ saigagalena_answer saigagalena_encrypt_message_signed(uint32_t modulus, size_t n
                                                       const uint32_t *mask, size_t mask_len, const int32_t *errors,
                                                       size_t errors_len, uint32_t message, uint32_t *out, size_t out_len);
 
-/* A ciphertext for each message: n mask words and an error for each, n + 1 output words. Tag: the tally of each is E.
- * Refuses as encrypt_message. */
+/* A ciphertext for each message: n mask words and an error for each, n + 1 output words. Tag: the tally of each is E,
+ * its c is 1. Refuses as encrypt_message. */
 saigagalena_answer saigagalena_encrypt_message_batch(uint32_t modulus, size_t n, uint32_t t, uint32_t error_limit,
                                                      uint32_t centered, const uint32_t *secret, size_t secret_len,
                                                      const uint32_t *masks, size_t masks_len, const int32_t *errors,
                                                      size_t errors_len, const uint32_t *messages, size_t messages_len,
                                                      uint32_t *out, size_t out_len);
 
-/* Up to n plaintexts or messages under one mask: n mask words, then a body for each. Tag: no tally.
- * Refuse by 2, 6, 9, 10, 11, 12, 13, 14, 15, and for messages 7, 8, 16 too. */
+/* Up to n plaintexts or messages under one mask: n mask words, then a body for each. Tag: no tally,
+ * and c is 1, as each body is one encryption. Refuse by 2, 6, 9, 10, 11, 12, 13, 14, 15, and for messages 7, 8, 16 too. */
 saigagalena_answer saigagalena_encrypt_encoded_packed(uint32_t modulus, size_t n, uint32_t error_limit, const uint32_t *secret,
                                                       size_t secret_len, const uint32_t *mask, size_t mask_len,
                                                       const int32_t *errors, size_t errors_len, const uint32_t *plaintexts,
@@ -234,7 +239,7 @@ uint32_t saigagalena_public_key_generate_signed(uint32_t modulus, size_t n, uint
                                                 size_t secret_len, const uint32_t *masks, size_t masks_len, const int32_t *errors,
                                                 size_t errors_len, uint32_t *out, size_t out_len);
 
-/* One ciphertext from n + 1 errors and n coefficients, each -1, 0 or 1. Tag: no tally.
+/* One ciphertext from n + 1 errors and n coefficients, each -1, 0 or 1. Tag: no tally, c is 1.
  * Refuse by 2, 6, 9, 11, 12, 13, 14, 15, and for a message 7, 8, 16 too. */
 saigagalena_answer saigagalena_public_key_encrypt_encoded(uint32_t modulus, size_t n, uint32_t error_limit, const uint32_t *key,
                                                           size_t key_len, const int32_t *errors, size_t errors_len,
@@ -248,24 +253,29 @@ saigagalena_answer saigagalena_public_key_encrypt_message(uint32_t modulus, size
 
 /* ---- tags, sums and marks */
 
-/* The tag of saved data, from the number that was saved: any number; SAIGAGALENA_NO_TALLY is no tally. It is the sender's word,
- * which no call can check against the words: the calls refuse a tally above 2^32 by 17, and believe every other. */
-saigagalena_tag saigagalena_saved_tag(uint64_t tally);
+/* The tag of saved data, from the tally and the c that were saved: any numbers; SAIGAGALENA_NO_TALLY is no tally. They are the sender's
+ * word, which no call can check against the words: the calls refuse a tally above 2^32 and a c above SAIGAGALENA_MOST_SUMMED by 17,
+ * and believe all others. */
+saigagalena_tag saigagalena_saved_tag(uint64_t tally, uint32_t count);
 
-/* x + y modulo q, word by word, in x. Tag: the sum of the two tallies, or no tally where one has none. Refused, the words of x are
- * as they were, and so is the tag that they had. Refuses by 2, 6, 10, 14, 17 (a tally that is given, or the sum). */
+/* The tag of data saved without c, by a release before 6: c 1 and no tally, whatever tally was saved with it, since that may be the
+ * tally of a sum whose roundings nobody counted. */
+saigagalena_tag saigagalena_uncounted_tag(void);
+
+/* x + y modulo q, word by word, in x. Tag: the sum of the two tallies, or no tally where one has none; the sum of the two c. Refused,
+ * the words of x are as they were, and so is the tag that they had. Refuses by 2, 6, 10, 14, 17 (what is given, or the sum). */
 saigagalena_answer saigagalena_add(uint32_t modulus, size_t n, uint32_t *x, size_t x_len, saigagalena_tag x_tag,
                                    const uint32_t *y, size_t y_len, saigagalena_tag y_tag);
 
-/* 1 where 2 t * tally + t < q, so that the ciphertext is marked good; else, and where there is no tally, 0; or a refusal by 2, 7,
- * 8, 17. The mark counts one rounding: where t does not divide q, so that encodings are rounded, a good sum of many messages may
- * open too high or too low. */
+/* 1 where 2 t * tally + c * t < q, so that the ciphertext is marked good; else, and where there is no tally, 0; or a refusal by 2, 7,
+ * 8, 17. A good total, formed by additions from single encryptions of messages under one secret, q and t, opens to the sum of the
+ * messages modulo t, with either embedding. */
 uint64_t saigagalena_is_good(uint32_t modulus, uint32_t t, saigagalena_tag tag);
 
-/* Body `index` of a packed ciphertext as a ciphertext of one message. Tag: no tally. Refuses by 2, 6, 10 (also where there is no
- * such body), 11, 14. */
-saigagalena_answer saigagalena_extract(uint32_t modulus, size_t n, const uint32_t *input, size_t input_len, size_t index,
-                                       uint32_t *out, size_t out_len);
+/* Body `index` of a packed ciphertext, whose tag is given, as a ciphertext of one message. Tag: no tally, and the c that is given.
+ * Refuses by 2, 6, 10 (also where there is no such body), 11, 14, 17. */
+saigagalena_answer saigagalena_extract(uint32_t modulus, size_t n, const uint32_t *input, size_t input_len, saigagalena_tag tag,
+                                       size_t index, uint32_t *out, size_t out_len);
 
 /* ---- key switching */
 
@@ -285,17 +295,18 @@ uint32_t saigagalena_switching_key_generate_signed(uint32_t modulus, uint32_t ba
                                                    size_t masks_len, const int32_t *errors, size_t errors_len, uint32_t *out,
                                                    size_t out_len);
 
-/* One ciphertext under the output key: (0, b) minus the sum of digit(i, j) * entry(i, j) modulo q. Tag: no tally.
- * Refuses by 1 to 3, 5, 6, 9, 10, 11, 14. */
+/* One ciphertext, whose tag is given, under the output key: (0, b) minus the sum of digit(i, j) * entry(i, j) modulo q. Tag: no
+ * tally, and the c that is given. Refuses by 1 to 3, 5, 6, 9, 10, 11, 14, 17. */
 saigagalena_answer saigagalena_key_switch(uint32_t modulus, uint32_t base_log, uint32_t levels, size_t n, size_t m,
                                           const uint32_t *key, size_t key_len, const uint32_t *input, size_t input_len,
-                                          uint32_t *out, size_t out_len);
+                                          saigagalena_tag tag, uint32_t *out, size_t out_len);
 
-/* Each ciphertext of n + 1 words to its own of m + 1; any number of them, none is fine. Tag: none has a tally.
- * Refuses as one switch. */
-saigagalena_answer saigagalena_key_switch_batch(uint32_t modulus, uint32_t base_log, uint32_t levels, size_t n, size_t m,
-                                                const uint32_t *key, size_t key_len, const uint32_t *input, size_t input_len,
-                                                uint32_t *out, size_t out_len);
+/* Each ciphertext of n + 1 words to its own of m + 1; any number of them, none is fine. There is a tag for each ciphertext of the
+ * input, and that of the output takes its place: no tally, and the c that was given. Refused, the tags are as they were.
+ * Refuses by 1 to 3, 5, 6, 9, 10, 11, 12 (another number of tags), 14, 17. */
+uint32_t saigagalena_key_switch_batch(uint32_t modulus, uint32_t base_log, uint32_t levels, size_t n, size_t m,
+                                      const uint32_t *key, size_t key_len, const uint32_t *input, size_t input_len,
+                                      saigagalena_tag *tags, size_t tags_len, uint32_t *out, size_t out_len);
 
 /* ---- errors as words: as a sampler modulo q gives them */
 

@@ -13,7 +13,14 @@ harness="tests/c/compare.c tests/c/place.c tests/c/draw.c tests/c/damage.c tests
 model="tests/c/model.c tests/c/lengths.c tests/c/results.c"
 
 # The header by itself, and a tag that goes in and comes out.
-printf '#include "saigagalena.h"\nint main(void) { return saigagalena_saved_tag(7).tally != 7; }\n' >"$room/header.c"
+cat >"$room/header.c" <<'END'
+#include "saigagalena.h"
+int main(void)
+{
+    const saigagalena_tag tag = saigagalena_saved_tag(7, 5);
+    return tag.tally != 7 || tag.count != 5;
+}
+END
 cp "$room/header.c" "$room/header.cpp"
 # shellcheck disable=SC2086 # the flags are several words
 "$cc" -std=c11 $strict "$room/header.c" "$archive" -o "$room/header_c"
@@ -46,6 +53,7 @@ try() {
         "$cc" -std=c11 $strict "$@" examples/pool.c "$archive" -o "$dir/pool"
         "$cc" -std=c11 $strict "$@" tests/c/cases.c "$archive" -o "$dir/cases"
         "$cc" -std=c11 $strict "$@" tests/c/tags.c "$archive" -o "$dir/tags"
+        "$cc" -std=c11 $strict "$@" tests/c/marks.c "$archive" -o "$dir/marks"
         "$cc" -std=c11 $strict "$@" tests/c/error_words.c "$archive" -o "$dir/error_words"
         "$cc" -std=c11 $strict "$@" tests/c/refusals.c $harness $model "$archive" -o "$dir/refusals"
     }
@@ -54,6 +62,7 @@ try() {
     diff examples/pool.out "$dir/pool.out"
     "$dir/cases"
     "$dir/tags"
+    "$dir/marks"
     "$dir/error_words"
     "$dir/refusals"
 }

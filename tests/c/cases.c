@@ -79,6 +79,7 @@ static void compare_switches(void)
     static const uint32_t secret[1] = {1}, masks[2] = {3, 4}, inputs[2][2] = {{9, 12}, {10, 12}};
     static const int32_t errors[2] = {0, 1};
     static const uint32_t expected[4] = {3, 5, 4, 13};
+    const saigagalena_tag fresh = saigagalena_saved_tag(1, 1);
     uint32_t key[4] = {0};
 
     same("key", saigagalena_switching_key_generate(17, 2, 0, 1, 1, 1, secret, 1, secret, 1, masks, 2, errors, 2, key, 4), 0);
@@ -87,7 +88,7 @@ static void compare_switches(void)
     for (size_t i = 0; i < 2; i++) {
         uint32_t out[2] = {0};
 
-        same("switch", saigagalena_key_switch(17, 2, 0, 1, 1, key, 4, inputs[i], 2, out, 2).refusal, 0);
+        same("switch", saigagalena_key_switch(17, 2, 0, 1, 1, key, 4, inputs[i], 2, fresh, out, 2).refusal, 0);
         same("mask", out[0], 10);
         same("body", out[1], 11);
         same("output phase", (int64_t)saigagalena_decrypt_phase(17, 1, secret, 1, out, 2), 1);
@@ -98,7 +99,7 @@ static void compare_switches(void)
 static void compare_limits(void)
 {
     static uint32_t words[2 * 2050], out[2 * 2050];
-    const saigagalena_tag none = saigagalena_saved_tag(SAIGAGALENA_NO_TALLY);
+    const saigagalena_tag none = saigagalena_saved_tag(SAIGAGALENA_NO_TALLY, 1);
 
     same("encode", (int64_t)saigagalena_encode(17, 4, 0, 2), 9);
     same("encode, centered", (int64_t)saigagalena_encode(17, 4, 1, 2), 8);
@@ -113,14 +114,15 @@ static void compare_limits(void)
 static void compare_nulls(void)
 {
     static const uint32_t key[4] = {3, 5, 4, 13};
+    const saigagalena_tag none = saigagalena_uncounted_tag();
     uint32_t word = 7;
 
     same("no words", saigagalena_decompose(17, 2, 0, NULL, 0, NULL, 0), 0);
     same("no messages", saigagalena_encode_slice(17, 4, 0, NULL, 0, NULL, 0), 0);
     same("no phases", saigagalena_decode_slice(17, 4, NULL, 0, NULL, 0), 0);
-    same("no rows", saigagalena_key_switch_batch(17, 2, 0, 1, 1, key, 4, NULL, 0, NULL, 0).refusal, 0);
-    same("no key", saigagalena_key_switch_batch(17, 2, 0, 1, 1, NULL, 0, NULL, 0, NULL, 0).refusal, 9);
-    same("no ciphertext", saigagalena_key_switch(17, 2, 0, 1, 1, key, 4, NULL, 0, &word, 1).refusal, 10);
+    same("no rows", saigagalena_key_switch_batch(17, 2, 0, 1, 1, key, 4, NULL, 0, NULL, 0, NULL, 0), 0);
+    same("no key", saigagalena_key_switch_batch(17, 2, 0, 1, 1, NULL, 0, NULL, 0, NULL, 0, NULL, 0), 9);
+    same("no ciphertext", saigagalena_key_switch(17, 2, 0, 1, 1, key, 4, NULL, 0, none, &word, 1).refusal, 10);
     same("no output", saigagalena_basis(17, 2, 0, NULL, 0), 11);
     same("a word that was lent", word, 7);
 }
@@ -162,6 +164,8 @@ static void compare_texts(void)
             same("texts differ", strcmp(saigagalena_refusal_text(x), saigagalena_refusal_text(y)) != 0, 1);
     }
     same("17 is the tally's", strstr(saigagalena_refusal_text(SAIGAGALENA_TALLY), "tally") != NULL, 1);
+    same("and that of c", strstr(saigagalena_refusal_text(SAIGAGALENA_TALLY), "encryptions 65536") != NULL, 1);
+    same("12 is the tags' too", strstr(saigagalena_refusal_text(SAIGAGALENA_LENT_LENGTH), "tags") != NULL, 1);
     same("13 is the limit's", strstr(saigagalena_refusal_text(SAIGAGALENA_ERROR_LIMIT), "error limit") != NULL, 1);
     same("26 is the large modulus's", strstr(saigagalena_refusal_text(SAIGAGALENA_LARGE_MODULUS), "65536") != NULL, 1);
     same("no text of 25", strcmp(saigagalena_refusal_text(25), unknown), 0);

@@ -2,7 +2,6 @@
 #include "draw.h"
 
 #include "place.h"
-#include "saigagalena.h"
 
 #define COUNT(list) (sizeof(list) / sizeof(list)[0])
 
@@ -21,7 +20,9 @@ static const struct kind parameters[] = {
 };
 
 /* What fits nothing else is damaged late only. */
-static const struct kind numbers[] = {{BAD_VALUE, WORD | MESSAGE, 5}, {BAD_TALLY, TALLY | TALLIES | SAVED, 15}};
+static const struct kind numbers[] = {
+    {BAD_VALUE, WORD | MESSAGE, 5}, {BAD_TALLY, TAG | TWO_TAGS | SAVED, 15}, {BAD_COUNT, TAG | TWO_TAGS | SAVED, 16},
+};
 
 static size_t add_damages(struct damage *list, size_t count, struct damage first, unsigned variants)
 {
@@ -38,7 +39,7 @@ static int has_bad_content(const struct call *call, enum field f)
 /* How many numbers bad_element has of a field. */
 static unsigned bad_kinds(enum field f)
 {
-    return f == ERROR_WORDS ? 8 : 4;
+    return f == ERROR_WORDS ? 8 : f == TAGS ? 6 : 4;
 }
 
 size_t list_damages(const struct call *call, struct damage list[MOST_DAMAGES])
@@ -148,9 +149,23 @@ static void damage_tally(const struct damage *damage, struct operands *o)
     const unsigned which = damage->variant / 5;
 
     if (which != 1)
-        o->tally[0] = bad[damage->variant % 5];
+        o->tag[0].tally = bad[damage->variant % 5];
     if (which != 0)
-        o->tally[1] = bad[damage->variant % 5];
+        o->tag[1].tally = bad[damage->variant % 5];
+}
+
+/* The same of c: above 65,536, or where a sum passes it or wraps in 32 bits; and the least c whose sum with the first is too large. */
+static void damage_count(const struct damage *damage, struct operands *o)
+{
+    static const uint32_t bad[] = {65537, 32769, 65536, 2147483648u, UINT32_MAX};
+    const unsigned which = damage->variant / 5;
+
+    if (which == 3)
+        o->tag[1].count = 65537 - o->tag[0].count;
+    else if (which != 1)
+        o->tag[0].count = bad[damage->variant % 5];
+    if (which == 1 || which == 2)
+        o->tag[1].count = bad[damage->variant % 5];
 }
 
 static void damage_length(const struct call *call, const struct damage *damage, struct operands *o)
@@ -187,19 +202,35 @@ static int64_t bad_element(const struct call *call, enum field f, unsigned varia
     }
 }
 
+/* A tag that is refused for its tally or for its c; the other number is as it was where that is possible. */
+static void damage_tag(unsigned variant, saigagalena_tag *tag)
+{
+    const uint64_t tallies[] = {(UINT64_C(1) << 32) + 1, UINT64_C(1) << 63, UINT64_MAX - 1};
+    static const uint32_t counts[] = {65537, 2147483648u, UINT32_MAX};
+
+    if (variant < 3)
+        tag->tally = tallies[variant];
+    else
+        tag->count = counts[variant - 3];
+}
+
 /* In the first place, in the last or in any. */
 static void damage_content(struct draw *d, const struct call *call, const struct damage *damage, struct operands *o)
 {
     const enum field f = damage->field;
     const size_t have = len(o, f);
-    const int64_t bad = bad_element(call, f, damage->variant % bad_kinds(f), o);
+    const unsigned kind = damage->variant % bad_kinds(f);
+    const int64_t bad = f == TAGS ? 0 : bad_element(call, f, kind, o);
     const int is_signed = f == SIGNED_KEY || f == ERRORS || f == COEFFICIENTS;
 
     if (have == 0 || bad > (is_signed ? INT32_MAX : (int64_t)UINT32_MAX) || bad < INT32_MIN)
         return;
-    const size_t places[] = {0, have - 1, draw_below(d, have)};
+    const size_t places[] = {0, have - 1, draw_below(d, have)}, at = places[damage->variant / bad_kinds(f)];
 
-    ((uint32_t *)o->slice[f].at)[places[damage->variant / bad_kinds(f)]] = (uint32_t)bad;
+    if (f == TAGS)
+        damage_tag(kind, (saigagalena_tag *)o->slice[f].at + at);
+    else
+        ((uint32_t *)o->slice[f].at)[at] = (uint32_t)bad;
 }
 
 static void damage_parameter(const struct damage *damage, struct operands *o)
@@ -243,6 +274,9 @@ void do_damage(struct draw *d, const struct call *call, const struct damage *dam
         break;
     case BAD_TALLY:
         damage_tally(damage, o);
+        break;
+    case BAD_COUNT:
+        damage_count(damage, o);
         break;
     case BAD_LENGTH:
         damage_length(call, damage, o);

@@ -3,7 +3,6 @@
 #include <string.h>
 
 #include "place.h"
-#include "saigagalena.h"
 
 #define COUNT(list) (sizeof(list) / sizeof(list)[0])
 #define CHOOSE(d, list) ((list)[draw_below(d, COUNT(list))])
@@ -98,6 +97,43 @@ static uint64_t draw_tally(struct draw *d)
     return CHOOSE(d, tallies);
 }
 
+static uint32_t draw_count(struct draw *d)
+{
+    const uint64_t counts[] = {0, 1, 1, 1, 2, 3, draw_below(d, 256), draw_below(d, 65537), 32768, 65535, 65536};
+
+    return (uint32_t)CHOOSE(d, counts);
+}
+
+/* One that is not refused. */
+static saigagalena_tag draw_tag(struct draw *d)
+{
+    saigagalena_tag tag;
+
+    tag.tally = draw_tally(d);
+    tag.count = draw_count(d);
+    return tag;
+}
+
+/* The second of two whose sum is not refused. */
+static saigagalena_tag draw_second_tag(struct draw *d, saigagalena_tag first)
+{
+    saigagalena_tag tag = draw_tag(d);
+
+    if (tag.tally != SAIGAGALENA_NO_TALLY && first.tally != SAIGAGALENA_NO_TALLY)
+        tag.tally = least(tag.tally, (UINT64_C(1) << 32) - first.tally);
+    tag.count = (uint32_t)least(tag.count, 65536 - first.count);
+    return tag;
+}
+
+/* The tally with which the mark, 2 * tally + c < q / t, is all but good or all but not. */
+static void draw_near_mark(struct draw *d, struct operands *o)
+{
+    const uint64_t steps = q_of(o->modulus) / o->t, c = o->tag[0].count;
+
+    if (c <= steps)
+        o->tag[0].tally = (steps - c) / 2 + draw_below(d, 2);
+}
+
 /* The longest slice of the call, about; the input is not drawn yet. */
 static uint64_t longest(const struct call *call, const struct operands *o)
 {
@@ -136,11 +172,10 @@ static void draw_parameters(struct draw *d, const struct call *call, const struc
     o->bound = draw_bound(d, q_of(o->modulus));
     o->centered = CHOOSE(d, centered);
     draw_dimensions(d, call, plan, o);
-    o->tally[0] = draw_tally(d);
-    o->tally[1] = draw_tally(d);
-    /* a sum that is not above 2^32 */
-    if (o->tally[0] != SAIGAGALENA_NO_TALLY && o->tally[1] != SAIGAGALENA_NO_TALLY)
-        o->tally[1] = least(o->tally[1], (UINT64_C(1) << 32) - o->tally[0]);
+    o->tag[0] = draw_tag(d);
+    o->tag[1] = draw_second_tag(d, o->tag[0]);
+    if (call->takes & TAG && call->takes & T && draw_below(d, 2))
+        draw_near_mark(d, o);
 }
 
 /* --- Lengths --- */
@@ -292,12 +327,20 @@ static uint64_t threshold_or_0(const struct call *call, const struct operands *o
     return call->takes & BASE && (model_applying(call, &bare) & 0x3e) == 0 ? threshold(o) : 0;
 }
 
+static void draw_tags(struct draw *d, struct operands *o)
+{
+    saigagalena_tag *tags = o->slice[TAGS].at;
+
+    for (size_t i = 0; i < len(o, TAGS); i++)
+        tags[i] = draw_tag(d);
+}
+
 static void draw_contents(struct draw *d, const struct call *call, struct operands *o)
 {
     const uint64_t T = threshold_or_0(call, o);
 
     for (int f = 0; f < FIELDS; f++) {
-        const size_t words = len(o, f) * element_size(call, f) / sizeof(uint32_t);
+        const size_t words = f == TAGS ? 0 : len(o, f) * element_size(call, f) / sizeof(uint32_t);
 
         if (room[f] == NULL)
             room[f] = new_room();
@@ -305,6 +348,7 @@ static void draw_contents(struct draw *d, const struct call *call, struct operan
         for (size_t i = 0; i < words; i++)
             room[f][i] = draw_element(d, call, o, f, T);
     }
+    draw_tags(d, o);
     o->value = call->takes & MESSAGE ? draw_message(d, o->t) : draw_below_q(d, q_of(o->modulus), T);
 }
 

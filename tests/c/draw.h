@@ -30,6 +30,7 @@ enum what {
     BAD_INDEX,
     BAD_VALUE,
     BAD_TALLY,
+    BAD_COUNT,
     BAD_LENGTH,
     BAD_CONTENT,
 };

@@ -52,6 +52,7 @@ static void compare_words(void)
 
         same("a word", got.refusal, c->refusal);
         same("its tally", (int64_t)got.tag.tally, c->refusal == 0 ? (int64_t)c->E : -1);
+        same("its c", got.tag.count, 1);
         same("its mask", out[0], c->refusal == 0 ? 3 : 99);
         same("its body", out[1], c->refusal == 0 ? (1 + c->error + q) % q : 99);
     }
@@ -133,8 +134,10 @@ static void compare_empty(void)
 
     same("an empty batch", batch.refusal, 0);
     same("its tally", (int64_t)batch.tag.tally, 1);
+    same("its c", batch.tag.count, 1);
     same("none packed", packed.refusal, 0);
     same("no tally", (int64_t)packed.tag.tally, (int64_t)NONE);
+    same("c of each body", packed.tag.count, 1);
     same("its mask", out[0], 3);
 }
 
@@ -148,13 +151,14 @@ static void same_outputs(const char *what, saigagalena_answer x, const uint32_t 
     same(what, x.refusal, 0);
     same(what, y.refusal, 0);
     same(what, (int64_t)x.tag.tally, (int64_t)y.tag.tally);
+    same(what, x.tag.count, y.tag.count);
     same(what, memcmp(out_x, out_y, 4 * sizeof *out_x), 0);
 }
 
 /* What returns no tag. */
 static saigagalena_answer number(uint32_t refusal)
 {
-    return (saigagalena_answer){refusal, saigagalena_saved_tag(NONE)};
+    return (saigagalena_answer){refusal, saigagalena_uncounted_tag()};
 }
 
 /* One word, and the number that it counts as. */

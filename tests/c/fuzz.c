@@ -1,5 +1,5 @@
 /*
- * Fuzzing of the library through C: good operands of every call, damaged in random ways, against the model of document 01.
+ * Fuzzing of the library through C: good operands of every call, damaged in random ways, against the model of the documents.
  *
  *     fuzz [SEED [COUNT [SECONDS]]]
  *
@@ -40,14 +40,25 @@ static void set_any(struct operands *o)
 {
     uint32_t *const words[] = {&o->modulus, &o->base_log, &o->levels, &o->t, &o->bound, &o->centered, &o->value};
     size_t *const sizes[] = {&o->n, &o->m, &o->index};
-    const uint64_t which = draw_below(&generator, 12);
+    const uint64_t which = draw_below(&generator, 14);
 
     if (which < 7)
         *words[which] = (uint32_t)any_number();
     else if (which < 10)
         *sizes[which - 7] = (size_t)any_number();
+    else if (which < 12)
+        o->tag[which - 10].tally = any_number();
     else
-        o->tally[which - 10] = any_number();
+        o->tag[which - 12].count = (uint32_t)any_number();
+}
+
+/* Either number of a tag. */
+static void set_any_tag(saigagalena_tag *tag)
+{
+    if (draw_below(&generator, 2))
+        tag->tally = any_number();
+    else
+        tag->count = (uint32_t)any_number();
 }
 
 /* Sets one element of a slice to any number. */
@@ -55,7 +66,9 @@ static void set_any_element(const struct call *call, struct operands *o)
 {
     const enum field f = (enum field)draw_below(&generator, FIELDS);
 
-    if (len(o, f) != 0 && element_size(call, f) == sizeof(uint32_t))
+    if (f == TAGS && len(o, f) != 0)
+        set_any_tag((saigagalena_tag *)o->slice[f].at + draw_below(&generator, len(o, f)));
+    else if (len(o, f) != 0 && element_size(call, f) == sizeof(uint32_t))
         ((uint32_t *)o->slice[f].at)[draw_below(&generator, len(o, f))] = (uint32_t)any_number();
 }
 
@@ -64,9 +77,8 @@ static void draw_call(const struct call *call, struct operands *o)
 {
     static const size_t words[] = {100, 100, 400, 4000};
     const struct plan plan = {.any_modulus = 1, .words = draw_below(&generator, 512) ? words[draw_below(&generator, 4)] : 50000};
-    const size_t damages = draw_below(&generator, 4);
     struct damage list[MOST_DAMAGES], chosen[3];
-    const size_t count = list_damages(call, list);
+    const size_t count = list_damages(call, list), damages = count == 0 ? 0 : draw_below(&generator, 4);
 
     for (size_t i = 0; i < damages; i++)
         chosen[i] = list[draw_below(&generator, count)];

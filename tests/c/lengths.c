@@ -125,5 +125,6 @@ void switch_lengths(const struct operands *o, uint64_t expected[FIELDS])
 void switch_rows_lengths(const struct operands *o, uint64_t expected[FIELDS])
 {
     expected[KEY] = o->n * level_count(o) * (o->m + 1);
+    expected[TAGS] = row_count(o);
     expected[OUT] = row_count(o) * (o->m + 1);
 }

@@ -1,8 +1,6 @@
 /* Each call of the library with the operands of the model, in the order of saigagalena.h. */
 #include "library.h"
 
-#include "saigagalena.h"
-
 /* A slice as pointer and length. */
 #define SLICE(f) o->slice[f].at, o->slice[f].len
 
@@ -10,12 +8,12 @@ typedef struct answer library_call(const struct operands *o);
 
 static struct answer number_only(uint64_t number)
 {
-    return (struct answer){number, SAIGAGALENA_NO_TALLY};
+    return (struct answer){number, {SAIGAGALENA_NO_TALLY, 1}};
 }
 
 static struct answer with_tag(saigagalena_answer answer)
 {
-    return (struct answer){answer.refusal, answer.tag.tally};
+    return (struct answer){answer.refusal, answer.tag};
 }
 
 static struct answer call_ciphertext_words(const struct operands *o)
@@ -188,26 +186,36 @@ static struct answer call_public_key_encrypt_message(const struct operands *o)
         SLICE(KEY), SLICE(ERRORS), SLICE(COEFFICIENTS), o->value, SLICE(OUT)));
 }
 
-/* The tallies of the model are saved ones. */
+/* The tags of the model are saved ones. */
+static saigagalena_tag tag(const struct operands *o, int which)
+{
+    return saigagalena_saved_tag(o->tag[which].tally, o->tag[which].count);
+}
+
 static struct answer call_saved_tag(const struct operands *o)
 {
-    return (struct answer){0, saigagalena_saved_tag(o->tally[0]).tally};
+    return (struct answer){0, tag(o, 0)};
+}
+
+static struct answer call_uncounted_tag(const struct operands *o)
+{
+    (void)o;
+    return (struct answer){0, saigagalena_uncounted_tag()};
 }
 
 static struct answer call_add(const struct operands *o)
 {
-    return with_tag(saigagalena_add(o->modulus, o->n, SLICE(OUT), saigagalena_saved_tag(o->tally[0]),
-        SLICE(INPUT), saigagalena_saved_tag(o->tally[1])));
+    return with_tag(saigagalena_add(o->modulus, o->n, SLICE(OUT), tag(o, 0), SLICE(INPUT), tag(o, 1)));
 }
 
 static struct answer call_is_good(const struct operands *o)
 {
-    return number_only(saigagalena_is_good(o->modulus, o->t, saigagalena_saved_tag(o->tally[0])));
+    return number_only(saigagalena_is_good(o->modulus, o->t, tag(o, 0)));
 }
 
 static struct answer call_extract(const struct operands *o)
 {
-    return with_tag(saigagalena_extract(o->modulus, o->n, SLICE(INPUT), o->index, SLICE(OUT)));
+    return with_tag(saigagalena_extract(o->modulus, o->n, SLICE(INPUT), tag(o, 0), o->index, SLICE(OUT)));
 }
 
 static struct answer call_switching_key_generate(const struct operands *o)
@@ -225,13 +233,13 @@ static struct answer call_switching_key_generate_signed(const struct operands *o
 static struct answer call_key_switch(const struct operands *o)
 {
     return with_tag(saigagalena_key_switch(o->modulus, o->base_log, o->levels, o->n, o->m, SLICE(KEY),
-        SLICE(INPUT), SLICE(OUT)));
+        SLICE(INPUT), tag(o, 0), SLICE(OUT)));
 }
 
 static struct answer call_key_switch_batch(const struct operands *o)
 {
-    return with_tag(saigagalena_key_switch_batch(o->modulus, o->base_log, o->levels, o->n, o->m, SLICE(KEY),
-        SLICE(INPUT), SLICE(OUT)));
+    return number_only(saigagalena_key_switch_batch(o->modulus, o->base_log, o->levels, o->n, o->m, SLICE(KEY),
+        SLICE(INPUT), SLICE(TAGS), SLICE(OUT)));
 }
 
 static struct answer call_encrypt_encoded_error_words(const struct operands *o)
@@ -322,7 +330,7 @@ static library_call *const library_calls[] = {
     call_decrypt_phase_signed, call_decrypt_message, call_decrypt_message_signed, call_decrypt_phase_batch,
     call_decrypt_message_batch, call_decrypt_phase_packed, call_decrypt_message_packed,
     call_public_key_generate, call_public_key_generate_signed, call_public_key_encrypt_encoded,
-    call_public_key_encrypt_message, call_saved_tag, call_add, call_is_good, call_extract,
+    call_public_key_encrypt_message, call_saved_tag, call_uncounted_tag, call_add, call_is_good, call_extract,
     call_switching_key_generate, call_switching_key_generate_signed, call_key_switch, call_key_switch_batch,
     call_encrypt_encoded_error_words, call_encrypt_encoded_signed_error_words, call_encrypt_message_error_words,
     call_encrypt_message_signed_error_words, call_encrypt_message_batch_error_words,

@@ -1,7 +1,5 @@
-/* The table of checks of document 01, in order, and what each call takes. */
+/* The table of checks of documents 01 and 02, in order, and what each call takes. */
 #include "model.h"
-
-#include "saigagalena.h"
 
 static const uint64_t two32 = UINT64_C(1) << 32;
 
@@ -105,12 +103,32 @@ static int tally_fails(uint64_t tally)
     return tally != SAIGAGALENA_NO_TALLY && tally > two32;
 }
 
-/* Given or summed; a sum of two that are at most 2^32 does not overflow. */
-static int tallies_fail(uint64_t x, uint64_t y)
+/* "A c, given or summed, above 65,536 falls under 17." */
+static int count_fails(uint64_t c)
 {
-    const int none = x == SAIGAGALENA_NO_TALLY || y == SAIGAGALENA_NO_TALLY;
+    return c > 65536;
+}
 
-    return tally_fails(x) || tally_fails(y) || (!none && x + y > two32);
+static int tag_fails(saigagalena_tag x)
+{
+    return tally_fails(x.tally) || count_fails(x.count);
+}
+
+/* Given or summed; a sum of two tallies that are at most 2^32 does not overflow. */
+static int two_tags_fail(saigagalena_tag x, saigagalena_tag y)
+{
+    const int none = x.tally == SAIGAGALENA_NO_TALLY || y.tally == SAIGAGALENA_NO_TALLY;
+
+    return tag_fails(x) || tag_fails(y) || (!none && x.tally + y.tally > two32) || count_fails((uint64_t)x.count + y.count);
+}
+
+static int tags_fail(const struct operands *o)
+{
+    int fail = 0;
+
+    for (size_t i = 0; i < len(o, TAGS); i++)
+        fail |= tag_fails(((const saigagalena_tag *)o->slice[TAGS].at)[i]);
+    return fail;
 }
 
 static int input_fails(enum input_kind kind, const struct operands *o)
@@ -193,12 +211,13 @@ uint32_t model_applying(const struct call *call, const struct operands *o)
         {differs(o, want, KEY) || differs(o, want, SIGNED_KEY) || differs(o, want, OUTPUT_KEY), 9},
         {input_fails(call->input, o) || ((takes & SUM) && differs(o, want, OUT)), 10},
         {!(takes & SUM) && differs(o, want, OUT), 11},
-        {differs(o, want, MASK) || differs(o, want, ERRORS) || differs(o, want, ERROR_WORDS) || differs(o, want, COEFFICIENTS), 12},
+        {differs(o, want, MASK) || differs(o, want, ERRORS) || differs(o, want, ERROR_WORDS) || differs(o, want, COEFFICIENTS)
+             || differs(o, want, TAGS), 12},
         {(takes & BOUND) && bound_fails(o), 13},
         {any_word_fails(call, o), 14},
         {numbers_fail(o, ERRORS, o->bound) || error_words_fail(o) || numbers_fail(o, COEFFICIENTS, 1), 15},
         {((takes & MESSAGE) && o->value >= o->t) || ((takes & MESSAGES) && messages_fail(o)), 16},
-        {((takes & TALLY) && tally_fails(o->tally[0])) || ((takes & TALLIES) && tallies_fail(o->tally[0], o->tally[1])), 17},
+        {((takes & TAG) && tag_fails(o->tag[0])) || ((takes & TWO_TAGS) && two_tags_fail(o->tag[0], o->tag[1])) || tags_fail(o), 17},
     };
     uint32_t applying = 0;
 
@@ -226,20 +245,24 @@ uint32_t model_refusal(const struct call *call, const struct operands *o)
 
 struct answer model_refused(const struct call *call, uint32_t number)
 {
-    return (struct answer){(call->takes & ANSWER ? SAIGAGALENA_REFUSED : 0) + number, SAIGAGALENA_NO_TALLY};
+    return (struct answer){(call->takes & ANSWER ? SAIGAGALENA_REFUSED : 0) + number, {SAIGAGALENA_NO_TALLY, 1}};
 }
 
-struct answer model_answer(const struct call *call, const struct operands *o, void *out)
+struct answer model_answer(const struct call *call, const struct operands *o, void *out, saigagalena_tag *tags)
 {
     const uint32_t refusal = model_refusal(call, o);
 
     if (refusal != 0)
         return model_refused(call, refusal);
-    return (struct answer){call->result(o, out), call->tally(o)};
+    for (size_t i = 0; i < len(o, TAGS); i++)
+        tags[i] = row_tag(o, i);
+    return (struct answer){call->result(o, out), call->tag(o)};
 }
 
 size_t element_size(const struct call *call, enum field field)
 {
+    if (field == TAGS)
+        return sizeof(saigagalena_tag);
     return call->result == reading_result && field == OUT ? sizeof(int64_t) : sizeof(uint32_t);
 }
 
@@ -251,101 +274,102 @@ size_t element_size(const struct call *call, enum field field)
 #define ENCODED "2 6 9 11 12 13 14 15"
 #define MESSAGED "2 6 7 8 9 11 12 13 14 15 16"
 #define GENERATES "1 2 3 4 5 6 9 11 12 13 14 15"
-#define SWITCHES "1 2 3 4 5 6 9 10 11 14"
 
 const struct call calls[] = {
-    {"ciphertext_words", N | ANSWER, 0, NO_INPUT, no_lengths, ciphertext_words_result, no_tally, "6"},
-    {"packed_words", N | ANSWER, 0, BODY_COUNT, no_lengths, packed_words_result, no_tally, "6 10"},
-    {"public_key_words", N | ANSWER, 0, NO_INPUT, no_lengths, public_key_words_result, no_tally, "6"},
-    {"switching_key_words", MODULUS | BASE | N | M | ANSWER, 0, NO_INPUT, no_lengths, switching_key_words_result, no_tally,
+    {"ciphertext_words", N | ANSWER, 0, NO_INPUT, no_lengths, ciphertext_words_result, untallied_tag, "6"},
+    {"packed_words", N | ANSWER, 0, BODY_COUNT, no_lengths, packed_words_result, untallied_tag, "6 10"},
+    {"public_key_words", N | ANSWER, 0, NO_INPUT, no_lengths, public_key_words_result, untallied_tag, "6"},
+    {"switching_key_words", MODULUS | BASE | N | M | ANSWER, 0, NO_INPUT, no_lengths, switching_key_words_result, untallied_tag,
      "1 2 3 4 5 6"},
-    {"basis", MODULUS | BASE, F(OUT), NO_INPUT, basis_lengths, basis_result, no_tally, "1 2 3 4 5 11"},
-    {"reading", MODULUS | BASE | WORD, F(OUT), NO_INPUT, reading_lengths, reading_result, no_tally, "1 2 3 4 5 11 14"},
-    {"decompose", MODULUS | BASE, F(INPUT) | F(OUT), ANY, decompose_lengths, decompose_result, no_tally, "1 2 3 4 5 11 14"},
-    {"digit_counts", MODULUS | BASE | COUNTED, F(OUT), NO_INPUT, counts_lengths, counts_result, no_tally, "1 2 3 4 5 11 26"},
-    {"encode", MODULUS | T | MESSAGE | ANSWER, 0, NO_INPUT, no_lengths, encode_result, no_tally, "2 7 8 16"},
-    {"decode", MODULUS | T | WORD | ANSWER, 0, NO_INPUT, no_lengths, decode_result, no_tally, "2 7 8 14"},
-    {"encode_slice", MODULUS | T | MESSAGES, F(INPUT) | F(OUT), ANY, same_lengths, encode_slice_result, no_tally,
+    {"basis", MODULUS | BASE, F(OUT), NO_INPUT, basis_lengths, basis_result, untallied_tag, "1 2 3 4 5 11"},
+    {"reading", MODULUS | BASE | WORD, F(OUT), NO_INPUT, reading_lengths, reading_result, untallied_tag, "1 2 3 4 5 11 14"},
+    {"decompose", MODULUS | BASE, F(INPUT) | F(OUT), ANY, decompose_lengths, decompose_result, untallied_tag, "1 2 3 4 5 11 14"},
+    {"digit_counts", MODULUS | BASE | COUNTED, F(OUT), NO_INPUT, counts_lengths, counts_result, untallied_tag, "1 2 3 4 5 11 26"},
+    {"encode", MODULUS | T | MESSAGE | ANSWER, 0, NO_INPUT, no_lengths, encode_result, untallied_tag, "2 7 8 16"},
+    {"decode", MODULUS | T | WORD | ANSWER, 0, NO_INPUT, no_lengths, decode_result, untallied_tag, "2 7 8 14"},
+    {"encode_slice", MODULUS | T | MESSAGES, F(INPUT) | F(OUT), ANY, same_lengths, encode_slice_result, untallied_tag,
      "2 7 8 11 16"},
-    {"decode_slice", MODULUS | T, F(INPUT) | F(OUT), ANY, same_lengths, decode_slice_result, no_tally, "2 7 8 11 14"},
+    {"decode_slice", MODULUS | T, F(INPUT) | F(OUT), ANY, same_lengths, decode_slice_result, untallied_tag, "2 7 8 11 14"},
     {"encrypt_encoded", MODULUS | N | BOUND | WORD, F(KEY) | LENT, NO_INPUT, encrypt_lengths, encrypt_encoded_result,
-     fresh_tally, ENCODED},
+     fresh_tag, ENCODED},
     {"encrypt_encoded_signed", MODULUS | N | BOUND | WORD, F(SIGNED_KEY) | LENT, NO_INPUT, encrypt_lengths,
-     encrypt_encoded_result, fresh_tally, ENCODED},
+     encrypt_encoded_result, fresh_tag, ENCODED},
     {"encrypt_message", MODULUS | N | T | BOUND | MESSAGE, F(KEY) | LENT, NO_INPUT, encrypt_lengths, encrypt_message_result,
-     fresh_tally, MESSAGED},
+     fresh_tag, MESSAGED},
     {"encrypt_message_signed", MODULUS | N | T | BOUND | MESSAGE, F(SIGNED_KEY) | LENT, NO_INPUT, encrypt_lengths,
-     encrypt_message_result, fresh_tally, MESSAGED},
+     encrypt_message_result, fresh_tag, MESSAGED},
     {"encrypt_message_batch", MODULUS | N | T | BOUND | MESSAGES, F(KEY) | F(INPUT) | LENT, ANY, encrypt_rows_lengths,
-     encrypt_rows_result, fresh_tally, MESSAGED},
-    {"encrypt_encoded_packed", MODULUS | N | BOUND, F(KEY) | F(INPUT) | LENT, UP_TO_N, packed_lengths, packed_result, no_tally,
+     encrypt_rows_result, fresh_tag, MESSAGED},
+    {"encrypt_encoded_packed", MODULUS | N | BOUND, F(KEY) | F(INPUT) | LENT, UP_TO_N, packed_lengths, packed_result, untallied_tag,
      "2 6 9 10 11 12 13 14 15"},
     {"encrypt_message_packed", MODULUS | N | T | BOUND | MESSAGES, F(KEY) | F(INPUT) | LENT, UP_TO_N, packed_lengths,
-     packed_messages_result, no_tally, "2 6 7 8 9 10 11 12 13 14 15 16"},
-    {"decrypt_phase", MODULUS | N | ANSWER, F(KEY) | F(INPUT), CIPHERTEXT, open_lengths, phase_result, no_tally, "2 6 9 10 14"},
-    {"decrypt_phase_signed", MODULUS | N | ANSWER, F(SIGNED_KEY) | F(INPUT), CIPHERTEXT, open_lengths, phase_result, no_tally,
+     packed_messages_result, untallied_tag, "2 6 7 8 9 10 11 12 13 14 15 16"},
+    {"decrypt_phase", MODULUS | N | ANSWER, F(KEY) | F(INPUT), CIPHERTEXT, open_lengths, phase_result, untallied_tag, "2 6 9 10 14"},
+    {"decrypt_phase_signed", MODULUS | N | ANSWER, F(SIGNED_KEY) | F(INPUT), CIPHERTEXT, open_lengths, phase_result, untallied_tag,
      "2 6 9 10 14"},
-    {"decrypt_message", MODULUS | N | T | ANSWER, F(KEY) | F(INPUT), CIPHERTEXT, open_lengths, message_result, no_tally,
+    {"decrypt_message", MODULUS | N | T | ANSWER, F(KEY) | F(INPUT), CIPHERTEXT, open_lengths, message_result, untallied_tag,
      "2 6 7 8 9 10 14"},
     {"decrypt_message_signed", MODULUS | N | T | ANSWER, F(SIGNED_KEY) | F(INPUT), CIPHERTEXT, open_lengths, message_result,
-     no_tally, "2 6 7 8 9 10 14"},
-    {"decrypt_phase_batch", MODULUS | N, F(KEY) | F(INPUT) | F(OUT), CIPHERTEXTS, open_rows_lengths, phases_result, no_tally,
+     untallied_tag, "2 6 7 8 9 10 14"},
+    {"decrypt_phase_batch", MODULUS | N, F(KEY) | F(INPUT) | F(OUT), CIPHERTEXTS, open_rows_lengths, phases_result, untallied_tag,
      "2 6 9 10 11 14"},
     {"decrypt_message_batch", MODULUS | N | T, F(KEY) | F(INPUT) | F(OUT), CIPHERTEXTS, open_rows_lengths, messages_result,
-     no_tally, "2 6 7 8 9 10 11 14"},
+     untallied_tag, "2 6 7 8 9 10 11 14"},
     {"decrypt_phase_packed", MODULUS | N, F(KEY) | F(INPUT) | F(OUT), PACKED, open_packed_lengths, packed_phases_result,
-     no_tally, "2 6 9 10 11 14"},
+     untallied_tag, "2 6 9 10 11 14"},
     {"decrypt_message_packed", MODULUS | N | T, F(KEY) | F(INPUT) | F(OUT), PACKED, open_packed_lengths, packed_open_result,
-     no_tally, "2 6 7 8 9 10 11 14"},
-    {"public_key_generate", MODULUS | N | BOUND, F(KEY) | LENT, NO_INPUT, public_key_lengths, public_key_result, no_tally,
+     untallied_tag, "2 6 7 8 9 10 11 14"},
+    {"public_key_generate", MODULUS | N | BOUND, F(KEY) | LENT, NO_INPUT, public_key_lengths, public_key_result, untallied_tag,
      ENCODED},
     {"public_key_generate_signed", MODULUS | N | BOUND, F(SIGNED_KEY) | LENT, NO_INPUT, public_key_lengths, public_key_result,
-     no_tally, ENCODED},
+     untallied_tag, ENCODED},
     {"public_key_encrypt_encoded", MODULUS | N | BOUND | WORD, F(KEY) | F(ERRORS) | F(COEFFICIENTS) | F(OUT), NO_INPUT,
-     public_encrypt_lengths, public_encoded_result, no_tally, ENCODED},
+     public_encrypt_lengths, public_encoded_result, untallied_tag, ENCODED},
     {"public_key_encrypt_message", MODULUS | N | T | BOUND | MESSAGE, F(KEY) | F(ERRORS) | F(COEFFICIENTS) | F(OUT), NO_INPUT,
-     public_encrypt_lengths, public_message_result, no_tally, MESSAGED},
-    {"saved_tag", SAVED, 0, NO_INPUT, no_lengths, tag_result, saved_tally, ""},
-    {"add", MODULUS | N | SUM | TALLIES, F(INPUT) | F(OUT), CIPHERTEXT, ciphertext_lengths, sum_result, sum_tally,
+     public_encrypt_lengths, public_message_result, untallied_tag, MESSAGED},
+    {"saved_tag", SAVED, 0, NO_INPUT, no_lengths, tag_result, saved_tag, ""},
+    {"uncounted_tag", 0, 0, NO_INPUT, no_lengths, tag_result, uncounted_tag, ""},
+    {"add", MODULUS | N | SUM | TWO_TAGS, F(INPUT) | F(OUT), CIPHERTEXT, ciphertext_lengths, sum_result, sum_tag,
      "2 6 10 14 17"},
-    {"is_good", MODULUS | T | TALLY | ANSWER, 0, NO_INPUT, no_lengths, good_result, no_tally, "2 7 8 17"},
-    {"extract", MODULUS | N, F(INPUT) | F(OUT), PACKED_INDEX, ciphertext_lengths, extract_result, no_tally, "2 6 10 11 14"},
+    {"is_good", MODULUS | T | TAG | ANSWER, 0, NO_INPUT, no_lengths, good_result, untallied_tag, "2 7 8 17"},
+    {"extract", MODULUS | N | TAG, F(INPUT) | F(OUT), PACKED_INDEX, ciphertext_lengths, extract_result, kept_tag,
+     "2 6 10 11 14 17"},
     {"switching_key_generate", MODULUS | BASE | N | M | BOUND, F(KEY) | F(OUTPUT_KEY) | LENT, NO_INPUT, generate_lengths,
-     generate_result, no_tally, GENERATES},
+     generate_result, untallied_tag, GENERATES},
     {"switching_key_generate_signed", MODULUS | BASE | N | M | BOUND, F(SIGNED_KEY) | F(OUTPUT_KEY) | LENT, NO_INPUT,
-     generate_lengths, generate_result, no_tally, GENERATES},
-    {"key_switch", MODULUS | BASE | N | M, F(KEY) | F(INPUT) | F(OUT), CIPHERTEXT, switch_lengths, switch_result, no_tally,
-     SWITCHES},
-    {"key_switch_batch", MODULUS | BASE | N | M, F(KEY) | F(INPUT) | F(OUT), CIPHERTEXTS, switch_rows_lengths,
-     switch_rows_result, no_tally, SWITCHES},
+     generate_lengths, generate_result, untallied_tag, GENERATES},
+    {"key_switch", MODULUS | BASE | N | M | TAG, F(KEY) | F(INPUT) | F(OUT), CIPHERTEXT, switch_lengths, switch_result, kept_tag,
+     "1 2 3 4 5 6 9 10 11 14 17"},
+    {"key_switch_batch", MODULUS | BASE | N | M, F(KEY) | F(INPUT) | F(TAGS) | F(OUT), CIPHERTEXTS, switch_rows_lengths,
+     switch_rows_result, untallied_tag, "1 2 3 4 5 6 9 10 11 12 14 17"},
     {"encrypt_encoded_error_words", MODULUS | N | BOUND | WORD, F(KEY) | LENT_WORDS, NO_INPUT, encrypt_lengths,
-     encrypt_encoded_result, fresh_tally, ENCODED},
+     encrypt_encoded_result, fresh_tag, ENCODED},
     {"encrypt_encoded_signed_error_words", MODULUS | N | BOUND | WORD, F(SIGNED_KEY) | LENT_WORDS, NO_INPUT, encrypt_lengths,
-     encrypt_encoded_result, fresh_tally, ENCODED},
+     encrypt_encoded_result, fresh_tag, ENCODED},
     {"encrypt_message_error_words", MODULUS | N | T | BOUND | MESSAGE, F(KEY) | LENT_WORDS, NO_INPUT, encrypt_lengths,
-     encrypt_message_result, fresh_tally, MESSAGED},
+     encrypt_message_result, fresh_tag, MESSAGED},
     {"encrypt_message_signed_error_words", MODULUS | N | T | BOUND | MESSAGE, F(SIGNED_KEY) | LENT_WORDS, NO_INPUT,
-     encrypt_lengths, encrypt_message_result, fresh_tally, MESSAGED},
+     encrypt_lengths, encrypt_message_result, fresh_tag, MESSAGED},
     {"encrypt_message_batch_error_words", MODULUS | N | T | BOUND | MESSAGES, F(KEY) | F(INPUT) | LENT_WORDS, ANY,
-     encrypt_rows_lengths, encrypt_rows_result, fresh_tally, MESSAGED},
+     encrypt_rows_lengths, encrypt_rows_result, fresh_tag, MESSAGED},
     {"encrypt_encoded_packed_error_words", MODULUS | N | BOUND, F(KEY) | F(INPUT) | LENT_WORDS, UP_TO_N, packed_lengths,
-     packed_result, no_tally, "2 6 9 10 11 12 13 14 15"},
+     packed_result, untallied_tag, "2 6 9 10 11 12 13 14 15"},
     {"encrypt_message_packed_error_words", MODULUS | N | T | BOUND | MESSAGES, F(KEY) | F(INPUT) | LENT_WORDS, UP_TO_N,
-     packed_lengths, packed_messages_result, no_tally, "2 6 7 8 9 10 11 12 13 14 15 16"},
+     packed_lengths, packed_messages_result, untallied_tag, "2 6 7 8 9 10 11 12 13 14 15 16"},
     {"public_key_generate_error_words", MODULUS | N | BOUND, F(KEY) | LENT_WORDS, NO_INPUT, public_key_lengths,
-     public_key_result, no_tally, ENCODED},
+     public_key_result, untallied_tag, ENCODED},
     {"public_key_generate_signed_error_words", MODULUS | N | BOUND, F(SIGNED_KEY) | LENT_WORDS, NO_INPUT, public_key_lengths,
-     public_key_result, no_tally, ENCODED},
+     public_key_result, untallied_tag, ENCODED},
     {"public_key_encrypt_encoded_error_words", MODULUS | N | BOUND | WORD,
-     F(KEY) | F(ERROR_WORDS) | F(COEFFICIENTS) | F(OUT), NO_INPUT, public_encrypt_lengths, public_encoded_result, no_tally,
+     F(KEY) | F(ERROR_WORDS) | F(COEFFICIENTS) | F(OUT), NO_INPUT, public_encrypt_lengths, public_encoded_result, untallied_tag,
      ENCODED},
     {"public_key_encrypt_message_error_words", MODULUS | N | T | BOUND | MESSAGE,
-     F(KEY) | F(ERROR_WORDS) | F(COEFFICIENTS) | F(OUT), NO_INPUT, public_encrypt_lengths, public_message_result, no_tally,
+     F(KEY) | F(ERROR_WORDS) | F(COEFFICIENTS) | F(OUT), NO_INPUT, public_encrypt_lengths, public_message_result, untallied_tag,
      MESSAGED},
     {"switching_key_generate_error_words", MODULUS | BASE | N | M | BOUND, F(KEY) | F(OUTPUT_KEY) | LENT_WORDS, NO_INPUT,
-     generate_lengths, generate_result, no_tally, GENERATES},
+     generate_lengths, generate_result, untallied_tag, GENERATES},
     {"switching_key_generate_signed_error_words", MODULUS | BASE | N | M | BOUND, F(SIGNED_KEY) | F(OUTPUT_KEY) | LENT_WORDS,
-     NO_INPUT, generate_lengths, generate_result, no_tally, GENERATES},
+     NO_INPUT, generate_lengths, generate_result, untallied_tag, GENERATES},
 };
 
 const size_t call_count = sizeof calls / sizeof calls[0];

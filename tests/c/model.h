@@ -1,6 +1,6 @@
 /*
- * A plain model of document 01 for every call of saigagalena.h: what each call takes, the table of checks and the
- * formulas, over whole numbers of 64 bits. The tests and the fuzzing take their expected answers from here.
+ * A plain model of document 01, and of request T-02 in document 02, for every call of saigagalena.h: what each call takes, the table
+ * of checks and the formulas, over whole numbers of 64 bits. The tests and the fuzzing take their expected answers from here.
  */
 #ifndef MODEL_H
 #define MODEL_H
@@ -8,8 +8,10 @@
 #include <stddef.h>
 #include <stdint.h>
 
-/* The slices that calls take. KEY is what a call reads as a key: a secret, a public key or a switching key. */
-enum field { KEY, SIGNED_KEY, OUTPUT_KEY, MASK, ERRORS, ERROR_WORDS, COEFFICIENTS, INPUT, OUT, FIELDS };
+#include "saigagalena.h"
+
+/* The slices that calls take. KEY is what a call reads as a key: a secret, a public key or a switching key. TAGS is read and written. */
+enum field { KEY, SIGNED_KEY, OUTPUT_KEY, MASK, ERRORS, ERROR_WORDS, COEFFICIENTS, INPUT, TAGS, OUT, FIELDS };
 
 struct slice {
     void *at;
@@ -21,7 +23,7 @@ struct operands {
     uint32_t modulus, base_log, levels, t, bound, centered;
     uint32_t value; /* a word, plaintext or message given by itself */
     size_t n, m, index; /* index: a body, or how many there are to be */
-    uint64_t tally[2];
+    saigagalena_tag tag[2];
     struct slice slice[FIELDS];
 };
 
@@ -37,9 +39,9 @@ enum takes {
     MESSAGE = 128,        /* value is a message */
     MESSAGES = 256,       /* INPUT holds messages, else words */
     SUM = 512,            /* OUT is read too, as a ciphertext */
-    TALLY = 1024,         /* the first tally */
-    TALLIES = 2048,       /* both tallies */
-    SAVED = 4096,         /* the first tally, which is not judged */
+    TAG = 1024,           /* the first tag */
+    TWO_TAGS = 2048,      /* both tags, which are summed */
+    SAVED = 4096,         /* the numbers of the first tag, which are not judged */
     COUNTED = 16384,      /* words are counted, one by one where q is no power of two */
     ANSWER = 8192,        /* it returns a number of 64 bits: the result, or 2^32 plus the refusal */
 };
@@ -47,14 +49,15 @@ enum takes {
 /* What document 01 says of the length of INPUT (check 10). */
 enum input_kind { NO_INPUT, ANY, CIPHERTEXT, CIPHERTEXTS, UP_TO_N, PACKED, PACKED_INDEX, BODY_COUNT };
 
-/* What a call returns: a number, and the tally of what it wrote. Where it was refused, or returns no tag, there is no tally. */
+/* What a call returns: a number, and the tag of what it wrote. Where it was refused, or returns no tag, there is no tally and c is 1. */
 struct answer {
-    uint64_t number, tally;
+    uint64_t number;
+    saigagalena_tag tag;
 };
 
 typedef void lengths_of(const struct operands *o, uint64_t expected[FIELDS]);
 typedef uint64_t result_of(const struct operands *o, void *out);
-typedef uint64_t tally_of(const struct operands *o);
+typedef saigagalena_tag tag_of(const struct operands *o);
 
 struct call {
     const char *name;
@@ -63,7 +66,7 @@ struct call {
     enum input_kind input;
     lengths_of *lengths;
     result_of *result;
-    tally_of *tally;
+    tag_of *tag;
     const char *refusals; /* as saigagalena.h lists them */
 };
 
@@ -83,8 +86,9 @@ extern const size_t model_order_count;
 /* The first check that applies, or 0. */
 uint32_t model_refusal(const struct call *call, const struct operands *o);
 
-/* What the call returns; its output goes to `out`, which is left alone where the call is refused. */
-struct answer model_answer(const struct call *call, const struct operands *o, void *out);
+/* What the call returns; its output goes to `out`, and what becomes of the tags it was lent to `tags`. Both are left alone where the
+ * call is refused. */
+struct answer model_answer(const struct call *call, const struct operands *o, void *out, saigagalena_tag *tags);
 
 /* What the call returns where it is refused by this number. */
 struct answer model_refused(const struct call *call, uint32_t number);
@@ -109,10 +113,13 @@ result_of phase_result, message_result, phases_result, messages_result, packed_p
 result_of public_key_result, public_encoded_result, public_message_result, sum_result, good_result, extract_result;
 result_of generate_result, switch_result, switch_rows_result, tag_result;
 result_of ciphertext_words_result, packed_words_result, public_key_words_result, switching_key_words_result;
-tally_of fresh_tally, no_tally, sum_tally, saved_tally;
+tag_of fresh_tag, untallied_tag, sum_tag, saved_tag, uncounted_tag, kept_tag;
 lengths_of no_lengths, basis_lengths, reading_lengths, decompose_lengths, counts_lengths, same_lengths, encrypt_lengths, encrypt_rows_lengths;
 lengths_of packed_lengths, open_lengths, open_rows_lengths, open_packed_lengths, public_key_lengths, public_encrypt_lengths;
 lengths_of ciphertext_lengths, generate_lengths, switch_lengths, switch_rows_lengths;
+
+/* What becomes of the tag of row i of a batch that is switched. */
+saigagalena_tag row_tag(const struct operands *o, size_t i);
 
 static inline size_t len(const struct operands *o, enum field f)
 {

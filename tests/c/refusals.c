@@ -1,5 +1,5 @@
 /*
- * Every call of the library against the model of document 01: accepted calls, every refusal alone, every pair of damages
+ * Every call of the library against the model of the documents: accepted calls, every refusal alone, every pair of damages
  * (the first in the order wins), and empty slices with null pointers. Each comparison is of the answer, of all buffers and of
  * what lies around them; where a number below 14, or 26, applies, the call is made again over pages that may not be
  * read.
@@ -83,7 +83,7 @@ static void try_damages(const struct call *call, struct seen *seen)
 
     for (size_t i = 0; i < count; i++)
         for (size_t p = 0; p < COUNT(plans); p++)
-            for (int again = 0; again < 8; again++)
+            for (int again = 0; again < 16; again++)
                 try_drawn(call, &plans[p], &list[i], 1, seen);
     for (size_t i = 0; i < count; i++) {
         for (size_t j = i + 1; j < count; j++) {

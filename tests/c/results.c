@@ -1,10 +1,8 @@
 /*
- * The formulas of document 01, for operands that pass its checks. Words are below q, which is at most 2^32: a product
+ * The formulas of document 01, and of request T-02, for operands that pass its checks. Words are below q, which is at most 2^32: a product
  * of two fits 64 bits, and so does a digit times a word with its sign.
  */
 #include "model.h"
-
-#include "saigagalena.h"
 
 /* x modulo q, from 0 to q - 1, also for x below 0. */
 static uint32_t residue(int64_t x, uint64_t q)
@@ -408,29 +406,57 @@ uint64_t public_message_result(const struct operands *o, void *out)
     return 0;
 }
 
-/* --- Tallies --- */
+/* --- Tags --- */
 
-uint64_t fresh_tally(const struct operands *o)
+/* "c of encryptions summed in it, 1 when fresh" */
+saigagalena_tag fresh_tag(const struct operands *o)
 {
-    return o->bound;
+    return (saigagalena_tag){o->bound, 1};
 }
 
-uint64_t no_tally(const struct operands *o)
+/* Of a packed or a public-key ciphertext; and where there is nothing to say. */
+saigagalena_tag untallied_tag(const struct operands *o)
 {
     (void)o;
-    return SAIGAGALENA_NO_TALLY;
+    return (saigagalena_tag){SAIGAGALENA_NO_TALLY, 1};
 }
 
-uint64_t sum_tally(const struct operands *o)
+static uint64_t sum_tally(uint64_t x, uint64_t y)
 {
-    if (o->tally[0] == SAIGAGALENA_NO_TALLY || o->tally[1] == SAIGAGALENA_NO_TALLY)
+    if (x == SAIGAGALENA_NO_TALLY || y == SAIGAGALENA_NO_TALLY)
         return SAIGAGALENA_NO_TALLY;
-    return o->tally[0] + o->tally[1];
+    return x + y;
 }
 
-uint64_t saved_tally(const struct operands *o)
+/* "adding two adds these numbers" */
+saigagalena_tag sum_tag(const struct operands *o)
 {
-    return o->tally[0];
+    return (saigagalena_tag){sum_tally(o->tag[0].tally, o->tag[1].tally), o->tag[0].count + o->tag[1].count};
+}
+
+saigagalena_tag saved_tag(const struct operands *o)
+{
+    return o->tag[0];
+}
+
+/* "one saved without c is read as c 1 with no tally", whatever tally was saved */
+saigagalena_tag uncounted_tag(const struct operands *o)
+{
+    (void)o;
+    return (saigagalena_tag){SAIGAGALENA_NO_TALLY, 1};
+}
+
+/* Of a body of a packed ciphertext, and of what was switched: "kept by a switch" speaks of c alone. */
+saigagalena_tag kept_tag(const struct operands *o)
+{
+    return (saigagalena_tag){SAIGAGALENA_NO_TALLY, o->tag[0].count};
+}
+
+saigagalena_tag row_tag(const struct operands *o, size_t i)
+{
+    const saigagalena_tag *tags = o->slice[TAGS].at;
+
+    return (saigagalena_tag){SAIGAGALENA_NO_TALLY, tags[i].count};
 }
 
 /* --- Lengths --- */
@@ -468,7 +494,7 @@ uint64_t sum_result(const struct operands *o, void *out)
     return 0;
 }
 
-/* Only a tag, which the tally is. */
+/* Only a tag. */
 uint64_t tag_result(const struct operands *o, void *out)
 {
     (void)o;
@@ -476,12 +502,13 @@ uint64_t tag_result(const struct operands *o, void *out)
     return 0;
 }
 
+/* "The mark becomes 2t × tally + c × t < q." */
 uint64_t good_result(const struct operands *o, void *out)
 {
-    const wide t = o->t;
+    const wide t = o->t, tally = o->tag[0].tally, c = o->tag[0].count;
 
     (void)out;
-    return o->tally[0] != SAIGAGALENA_NO_TALLY && 2 * t * o->tally[0] + t < q_of(o->modulus);
+    return o->tag[0].tally != SAIGAGALENA_NO_TALLY && 2 * t * tally + c * t < q_of(o->modulus);
 }
 
 /* The mask for which <mask, s> is what body `index` uses, for every s. */
