@@ -93,6 +93,10 @@ impl Kind {
     pub fn has_bound(self) -> bool {
         self.has_dimension() && !self.opens() && !matches!(self, Extract | Switch | SwitchBatch)
     }
+    /// The tags of the ciphertexts that it reads, whose c it keeps.
+    pub fn takes_tags(self) -> bool {
+        matches!(self, Extract | Switch | SwitchBatch)
+    }
     /// The secret is signed numbers.
     pub fn is_signed(self) -> bool {
         matches!(
@@ -186,6 +190,8 @@ pub struct Call {
     pub coefficients: Vec<i32>,
     /// Words, messages or ciphertexts; a call of one number has it alone.
     pub input: Vec<u32>,
+    /// The tally and c of each ciphertext that is switched, or that a sample is taken of: for the library alone, as the Rust has neither.
+    pub tags: Vec<(u64, u32)>,
     /// The body that a sample is taken of.
     pub index: usize,
     pub out_len: usize,
@@ -272,10 +278,12 @@ impl Call {
         let numbers = numbers.iter().map(|&x| x as u128);
         let sizes = [self.n, self.m, self.index, self.out_len];
         let sizes = sizes.iter().map(|&x| x as u128);
+        let tags = self.tags.iter();
+        let tags = tags.map(|&(tally, c)| tally.wrapping_add(1) as u128 + c as u128);
         let q = self.q() as u128;
         // A call about nothing is no example.
         let empty = 1000 * (self.kind.takes_a_run() && self.input.is_empty()) as u128;
-        empty + q + words.chain(lent).chain(numbers).chain(sizes).sum::<u128>()
+        empty + q + words.chain(lent).chain(numbers).chain(sizes).chain(tags).sum::<u128>()
     }
 }
 
@@ -309,6 +317,7 @@ impl std::fmt::Display for Call {
         run(f, errors, &self.lent_errors())?;
         run(f, "coefficients", &self.coefficients)?;
         run(f, "input", &self.input)?;
+        run(f, "tags", &self.tags)?;
         if kind.answers_a_number() {
             return Ok(());
         }

@@ -1,4 +1,4 @@
-//! Document 01's checks, operand by operand, written from its table: what applies to a call.
+//! Document 01's checks, operand by operand, written from its table, with those of c from request T-02: what applies to a call.
 
 use supplied::call::{Call, Kind};
 
@@ -23,6 +23,7 @@ pub enum Check {
     MaskLength,
     ErrorLength,
     CoefficientLength,
+    TagCount,
     BoundAboveLimit,
     BoundNotBelowQ,
     SecretWord,
@@ -35,6 +36,8 @@ pub enum Check {
     ErrorOutside,
     CoefficientOutside,
     MessageNotBelowT,
+    TallyAboveCap,
+    SummedAboveCap,
 }
 
 use Check::*;
@@ -52,12 +55,13 @@ impl Check {
             SecretLength | OutputKeyLength | KeyLength => 9,
             InputLength | PackedCount | BodyIndex => 10,
             OutputLength => 11,
-            MaskLength | ErrorLength | CoefficientLength => 12,
+            MaskLength | ErrorLength | CoefficientLength | TagCount => 12,
             BoundAboveLimit | BoundNotBelowQ => 13,
             SecretWord | SecretNumber | OutputKeyWord | KeyWord | MaskWord | ErrorWord
             | InputWord => 14,
             ErrorOutside | CoefficientOutside => 15,
             MessageNotBelowT => 16,
+            TallyAboveCap | SummedAboveCap => 17,
         }
     }
 }
@@ -71,6 +75,7 @@ struct Lengths {
     masks: u128,
     errors: u128,
     coefficients: u128,
+    tags: u128,
     out: u128,
 }
 
@@ -123,6 +128,7 @@ fn switching(call: &Call, rows: u128) -> Lengths {
     let width = call.m as u128 + 1;
     Lengths {
         key: entries(call).saturating_mul(width),
+        tags: rows,
         ..writing(rows * width)
     }
 }
@@ -146,7 +152,10 @@ fn lengths(call: &Call) -> Lengths {
         PhasePacked | MessagePacked => opening(n, count.saturating_sub(n)),
         PublicKey | PublicKeySigned => encrypting(n, n * n, n, n * (n + 1)),
         PublicEncoded | PublicMessage => public_encrypting(n),
-        Extract => writing(n + 1),
+        Extract => Lengths {
+            tags: 1,
+            ..writing(n + 1)
+        },
         Generate | GenerateSigned => generating(call),
         Switch => switching(call, 1),
         SwitchBatch => switching(call, count / (n + 1)),
@@ -232,6 +241,7 @@ fn length_checks(call: &Call) -> Vec<(Check, bool)> {
             CoefficientLength,
             call.coefficients.len() as u128 != wanted.coefficients,
         ),
+        (TagCount, call.tags.len() as u128 != wanted.tags),
     ]
 }
 
@@ -262,19 +272,42 @@ fn number_checks(call: &Call) -> Vec<(Check, bool)> {
             MessageNotBelowT,
             messages && call.input.iter().any(|&m| m >= call.t),
         ),
+        (
+            TallyAboveCap,
+            call.tags
+                .iter()
+                .any(|tag| tag.0 != NO_TALLY && tag.0 > 1 << 32),
+        ),
+        (
+            SummedAboveCap,
+            call.tags.iter().any(|tag| tag.1 > MOST_SUMMED),
+        ),
     ]
 }
 
 /// 2^64 − 1, as the C calls have it.
 pub const NO_TALLY: u64 = u64::MAX;
+/// "A c, given or summed, above 65,536 falls under 17."
+pub const MOST_SUMMED: u32 = 65536;
 
-/// "A fresh single secret-key ciphertext has tally E; a public-key, packed or switched one has none." What is no ciphertext has none.
-pub fn tally(call: &Call) -> u64 {
+/// "A fresh single secret-key ciphertext has tally E; a public-key, packed or switched one has none"; c is "1 when fresh, kept by a
+/// switch". One tag for what the call wrote, or that of each row it switched; what is no ciphertext has none.
+pub fn tags(call: &Call) -> Vec<(u64, u32)> {
     use Kind::*;
     match call.kind {
         EncryptEncoded | EncryptEncodedSigned | EncryptMessage | EncryptMessageSigned
-        | EncryptMessageBatch => call.bound as u64,
-        _ => NO_TALLY,
+        | EncryptMessageBatch => vec![(call.bound as u64, 1)],
+        PackEncoded | PackMessage | PublicEncoded | PublicMessage => vec![(NO_TALLY, 1)],
+        _ => call.tags.iter().map(|&(_, c)| (NO_TALLY, c)).collect(),
+    }
+}
+
+/// Of a refused call: no tally and c 1 where it answers a tag, and the tags of a batch as they were.
+pub fn tags_refused(call: &Call) -> Vec<(u64, u32)> {
+    use Kind::*;
+    match call.kind {
+        SwitchBatch => call.tags.clone(),
+        _ => tags(call).iter().map(|_| (NO_TALLY, 1)).collect(),
     }
 }
 

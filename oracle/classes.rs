@@ -64,6 +64,8 @@ pub fn allowed(kind: Kind, check: Check) -> Option<&'static [Does]> {
         ErrorWord => &[Answers],
         InputWord => input_word(kind),
         MessageNotBelowT => &[Panics],
+        // It has neither tally nor c.
+        TagCount | TallyAboveCap | SummedAboveCap => &[Answers],
         // Keys come from `generate` alone, and a generator hands out what is asked for.
         KeyLength | KeyWord | MaskLength | ErrorLength | CoefficientLength | CoefficientOutside => {
             return None;

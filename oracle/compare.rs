@@ -68,21 +68,28 @@ pub fn answers(proved: Said, rust: Said) -> Outcome {
     }
 }
 
-/// The tally that the library told against the rule; a refused call has none.
-pub fn tallies(call: &Call, told: u64, rule: impl Fn(&Call) -> u64) -> Option<Outcome> {
+/// The tags that the library told against the rule.
+pub fn tags(
+    call: &Call,
+    told: &[(u64, u32)],
+    rule: impl Fn(&Call) -> Vec<(u64, u32)>,
+) -> Option<Outcome> {
     let refused = !checks::applying(call).is_empty();
-    let tally = if refused {
-        checks::NO_TALLY
+    let expected = if refused {
+        checks::tags_refused(call)
     } else {
         rule(call)
     };
-    (told != tally)
-        .then(|| Outcome::Differs(format!("01's tally is {tally}, the library's {told}")))
+    (told != expected).then(|| {
+        Outcome::Differs(format!(
+            "the tags should be {expected:?}, the library's are {told:?}"
+        ))
+    })
 }
 
 pub fn compare(call: &Call) -> Outcome {
     let proved = proved::told(call);
-    if let Some(outcome) = tallies(call, proved.tally, checks::tally) {
+    if let Some(outcome) = tags(call, &proved.tags, checks::tags) {
         return outcome;
     }
     let checks = checks::applying(call);

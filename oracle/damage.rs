@@ -5,7 +5,7 @@ use crate::draw::{Draw, LIMIT, accepted, is_square, sized};
 use supplied::call::{Call, Kind};
 
 /// Every place that a damage can take.
-const PLACES: u64 = 19;
+const PLACES: u64 = 21;
 
 fn damage(draw: &mut Draw, call: &mut Call) {
     let q = call.q();
@@ -28,6 +28,7 @@ fn damage(draw: &mut Draw, call: &mut Call) {
         15 => damage_error(draw, call),
         16 => call.index = draw.choose(&[call.input.len().saturating_sub(call.n), usize::MAX]),
         17 => damage_message(draw, call),
+        18 | 19 => damage_tags(draw, call),
         _ => damage_count(call),
     }
 }
@@ -151,6 +152,25 @@ fn damage_message(draw: &mut Draw, call: &mut Call) {
     }
 }
 
+/// A tag too many or too few, where they have a number; or one with a tally or a c above its limit.
+fn damage_tags(draw: &mut Draw, call: &mut Call) {
+    match draw.below(4) {
+        0 if call.kind == Kind::SwitchBatch => call.tags.push((0, 1)),
+        1 if call.kind == Kind::SwitchBatch => {
+            call.tags.pop();
+        }
+        _ if call.tags.is_empty() => {}
+        2 => {
+            let place = draw.below(call.tags.len() as u64) as usize;
+            call.tags[place].0 = draw.choose(&[(1 << 32) + 1, 1 << 63, u64::MAX - 1]);
+        }
+        _ => {
+            let place = draw.below(call.tags.len() as u64) as usize;
+            call.tags[place].1 = draw.choose(&[65537, 1 << 31, u32::MAX]);
+        }
+    }
+}
+
 /// One body more than the n of a packed ciphertext, with all lengths as they have to be.
 fn damage_count(call: &mut Call) {
     let n = call.n.min(2048);
@@ -175,6 +195,7 @@ fn plain(mut call: Call) -> Call {
     }
     call.errors.fill(0);
     call.coefficients.fill(0);
+    call.tags.fill((0, 1));
     call
 }
 

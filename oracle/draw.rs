@@ -293,9 +293,19 @@ fn fill_public(draw: &mut Draw, call: &mut Call) {
     call.out_len = n + 1;
 }
 
+/// A tally and a c, the largest among them.
+fn tag(draw: &mut Draw) -> (u64, u32) {
+    let (tally, c) = (draw.below((1 << 32) + 1), draw.below(65537) as u32);
+    (
+        draw.choose(&[tally, 0, 1 << 32, u64::MAX]),
+        draw.choose(&[c, 0, 1, 1, 2, 65535, 65536]),
+    )
+}
+
 fn fill_extract(draw: &mut Draw, call: &mut Call) {
     let count = draw.between(1, call.n.max(1) as u64) as usize;
     call.input = words(draw, call, call.n + count);
+    call.tags = vec![tag(draw)];
     call.index = draw.below(count as u64) as usize;
     call.out_len = call.n + 1;
 }
@@ -316,6 +326,7 @@ fn fill_switching(draw: &mut Draw, call: &mut Call) {
     };
     call.key = words(draw, call, entries * (m + 1));
     call.input = words(draw, call, rows * (n + 1));
+    call.tags = (0..rows).map(|_| tag(draw)).collect();
     call.out_len = rows * (m + 1);
 }
 

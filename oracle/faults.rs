@@ -1,6 +1,6 @@
 //! Faults planted in what the Rust is given, in what it says, or in what is expected: each has to be noticed.
 
-use crate::compare::{Outcome, answers, refusals, tallies};
+use crate::compare::{Outcome, answers, refusals, tags};
 use crate::damage::refused;
 use crate::draw::{Draw, accepted};
 use crate::{checks, proved};
@@ -132,17 +132,74 @@ fn acceptance_differs(draw: &mut Draw) -> bool {
     )
 }
 
-/// A rule of tallies other than 01's.
-fn tally_differs(draw: &mut Draw, kinds: &[Kind], rule: fn(&Call) -> u64) -> bool {
-    let kind = draw.choose(kinds);
+/// A rule of tags other than the documents'.
+struct Rule {
+    name: &'static str,
+    /// The kinds that it can show in, each of them.
+    kinds: &'static [Kind],
+    tags: fn(&Call) -> Vec<(u64, u32)>,
+}
+
+const fn rule(
+    name: &'static str,
+    kinds: &'static [Kind],
+    tags: fn(&Call) -> Vec<(u64, u32)>,
+) -> Rule {
+    Rule { name, kinds, tags }
+}
+
+const FRESH: &[Kind] = &[
+    EncryptEncoded,
+    EncryptEncodedSigned,
+    EncryptMessage,
+    EncryptMessageSigned,
+    EncryptMessageBatch,
+];
+const KEEPING: &[Kind] = &[Extract, Switch, SwitchBatch];
+const WRITING: &[Kind] = &[
+    EncryptMessageBatch,
+    PackEncoded,
+    PackMessage,
+    PublicEncoded,
+    PublicMessage,
+];
+
+#[rustfmt::skip]
+const RULES: [Rule; 8] = [
+    rule("a tally of |e|", FRESH, |call| vec![(tally_of_the_error(call), 1)]),
+    rule("a tally where there is none", &[PackMessage, PublicEncoded], |call| vec![(call.bound as u64, 1)]),
+    rule("the tally is kept", KEEPING, |call| call.tags.clone()),
+    rule("c is the number of messages", &[EncryptMessageBatch, PackMessage], |call| vec![(checks::tags(call)[0].0, call.input.len() as u32)]),
+    rule("c is 0 when fresh", WRITING, |call| vec![(checks::tags(call)[0].0, 0)]),
+    rule("c is forgotten", KEEPING, |call| call.tags.iter().map(|_| (checks::NO_TALLY, 1)).collect()),
+    rule("c is one more", KEEPING, |call| call.tags.iter().map(|tag| (checks::NO_TALLY, tag.1 + 1)).collect()),
+    rule("c of the row before", &[SwitchBatch], row_before),
+];
+
+fn rule_differs(rule: &Rule, kind: Kind, draw: &mut Draw) -> bool {
     let call = accepted(draw, kind);
-    tallies(&call, proved::told(&call).tally, rule).is_some()
+    tags(&call, &proved::told(&call).tags, rule.tags).is_some()
 }
 
 /// |e|, which is not E.
 fn tally_of_the_error(call: &Call) -> u64 {
     let errors = call.signed_errors().into_iter();
     errors.map(i64::unsigned_abs).max().unwrap_or(0)
+}
+
+fn row_before(call: &Call) -> Vec<(u64, u32)> {
+    let mut tags = checks::tags(call);
+    if !tags.is_empty() {
+        tags.rotate_right(1);
+    }
+    tags
+}
+
+/// A refused batch whose tags are as if it had been served.
+fn refused_tags_differ(draw: &mut Draw) -> bool {
+    let call = refused(draw, SwitchBatch);
+    let served = checks::tags(&call);
+    proved::told(&call).tags != served
 }
 
 /// Words judged as they stand: 15 is of what they count as.
@@ -180,19 +237,15 @@ pub fn all_noticed(seed: u64) -> i32 {
         noticed(seed, acceptance_differs),
     );
     all &= say("15 judged on the word", noticed(seed, judgement_differs));
-    let single = [EncryptEncoded, EncryptMessageSigned];
+    for rule in &RULES {
+        for &kind in rule.kinds {
+            let name = format!("{}, {kind:?}", rule.name);
+            all &= say(&name, noticed(seed, |draw| rule_differs(rule, kind, draw)));
+        }
+    }
     all &= say(
-        "a tally of |e|",
-        noticed(seed, |draw| {
-            tally_differs(draw, &single, tally_of_the_error)
-        }),
-    );
-    let without = [PackMessage, PublicEncoded, SwitchBatch, Extract];
-    all &= say(
-        "a tally where there is none",
-        noticed(seed, |draw| {
-            tally_differs(draw, &without, |call| call.bound as u64)
-        }),
+        "the tags of a refused batch",
+        noticed(seed, refused_tags_differ),
     );
     println!(
         "{}",

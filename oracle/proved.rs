@@ -9,22 +9,31 @@ use supplied::call::{Call, Kind, Said};
 /// Stands in every output before the call; a refused call leaves it.
 const FILL: u32 = 0xaaaa_aaaa;
 
-/// What the library said, and the tally of what it wrote; none where the call returns no tag.
+/// What the library said, and the tally and c of what it wrote: of each row where a batch is switched, none where the call tells no tag.
 pub struct Told {
     pub said: Said,
-    pub tally: u64,
+    pub tags: Vec<(u64, u32)>,
 }
 
 impl From<Said> for Told {
     fn from(said: Said) -> Told {
-        Told {
-            said,
-            tally: NO_TALLY,
-        }
+        Told { said, tags: vec![] }
     }
 }
 
-/// A call that writes: its numbers, its runs, perhaps one number more, and the output. What it returns, and the output.
+/// A tag as a `Call` has it.
+fn numbers(tag: &Tag) -> (u64, u32) {
+    (tag.tally(), tag.count())
+}
+
+fn tags(c: &Call) -> Vec<Tag> {
+    let tags = c.tags.iter();
+    // SAFETY: two numbers go in, and a tag comes out.
+    tags.map(|&(tally, count)| unsafe { saigagalena_saved_tag(tally, count) })
+        .collect()
+}
+
+/// A call that writes: its numbers, its runs, what else it takes, and the output. What it returns, and the output.
 /// Of two functions, the second takes the errors as words.
 macro_rules! lent {
     ($call:ident, [$signed:ident, $words:ident], $($rest:tt)*) => {
@@ -34,11 +43,11 @@ macro_rules! lent {
             lent!($call, $signed, $($rest)*)
         }
     };
-    ($call:ident, $function:ident, [$($number:expr),*], [$($run:ident),*] $(, $last:expr)?) => {{
+    ($call:ident, $function:ident, [$($number:expr),*], [$($run:ident),*] $(, $last:expr)*) => {{
         let mut out = vec![FILL; $call.out_len];
         // SAFETY: each pointer and length is one run of the call, alive and lent while the function runs.
         let returned = unsafe {
-            $function($($number,)* $(start(&$call.$run), $call.$run.len(),)* $($last,)? out.as_mut_ptr(), out.len())
+            $function($($number,)* $(start(&$call.$run), $call.$run.len(),)* $($last,)* out.as_mut_ptr(), out.len())
         };
         (returned, out)
     }};
@@ -56,7 +65,7 @@ macro_rules! writing {
 macro_rules! tagging {
     ($($operand:tt)*) => {{
         let (answer, out) = lent!($($operand)*);
-        Told { said: written(answer.refusal, out), tally: answer.tag.tally() }
+        Told { said: written(answer.refusal, out), tags: vec![numbers(&answer.tag)] }
     }};
 }
 
@@ -349,19 +358,27 @@ fn public_call(c: &Call) -> Told {
 
 fn switching_call(c: &Call) -> Told {
     let (q, log, levels, n, m) = (c.modulus, c.base_log, c.levels, c.n, c.m);
-    match c.kind {
-        Kind::Switch => tagging!(
+    let mut tags = tags(c);
+    if c.kind == Kind::Switch {
+        return tagging!(
             c,
             saigagalena_key_switch,
             [q, log, levels, n, m],
-            [key, input]
-        ),
-        _ => tagging!(
-            c,
-            saigagalena_key_switch_batch,
-            [q, log, levels, n, m],
-            [key, input]
-        ),
+            [key, input],
+            tags[0]
+        );
+    }
+    let said = writing!(
+        c,
+        saigagalena_key_switch_batch,
+        [q, log, levels, n, m],
+        [key, input],
+        tags.as_mut_ptr(),
+        tags.len()
+    );
+    Told {
+        said,
+        tags: tags.iter().map(numbers).collect(),
     }
 }
 
@@ -378,7 +395,14 @@ pub fn told(c: &Call) -> Told {
         PhaseBatch | MessageBatch | PhasePacked | MessagePacked => run_opening_call(c).into(),
         PublicKey | PublicKeySigned | Generate | GenerateSigned => key_call(c).into(),
         PublicEncoded | PublicMessage => public_call(c),
-        Extract => tagging!(c, saigagalena_extract, [c.modulus, c.n], [input], c.index),
+        Extract => tagging!(
+            c,
+            saigagalena_extract,
+            [c.modulus, c.n],
+            [input],
+            tags(c)[0],
+            c.index
+        ),
         Switch | SwitchBatch => switching_call(c),
     }
 }

@@ -78,10 +78,12 @@ fn switches(report: &mut Report, draw: &mut Draw, q: u32) {
         let all: Vec<Vec<u32>> = (0..q * q).map(|i| vec![i / q, i % q]).collect();
         call.kind = Kind::SwitchBatch;
         call.input = all.concat();
+        call.tags = (0..q * q).map(|i| (u64::MAX, i)).collect();
         call.out_len = call.input.len();
         report.add(&call, compare(&call));
         (call.kind, call.out_len) = (Kind::Switch, 2);
         for ciphertext in all {
+            call.tags = vec![(ciphertext[0] as u64, ciphertext[1])];
             call.input = ciphertext;
             report.add(&call, compare(&call));
         }
@@ -200,6 +202,7 @@ fn samples(report: &mut Report, q: u32) {
             modulus: q,
             n: 2,
             input: choice[..4].to_vec(),
+            tags: vec![(0, choice[0])],
             index: choice[4] as usize,
             out_len: 3,
             ..Call::default()
