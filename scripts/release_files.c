@@ -1,5 +1,6 @@
 /* Writes the files of scripts/release_files.py once more, from the same seeds, through the calls of the library: every key, ciphertext and
- * message in them is what a call wrote. scripts/release_files.sh builds and runs it, and compares. Usage: release_files FOLDER */
+ * message in them is what a call wrote. scripts/release_files.sh builds and runs it, and compares. Usage: release_files FOLDER
+ * With the header of a release before 6 it makes what that release can: no c. */
 #include <inttypes.h>
 #include <stdio.h>
 #include <stdlib.h>
@@ -9,6 +10,7 @@
 
 enum { SECRET = 1, SIGNED_SECRET, SWITCHING_KEY, PUBLIC_KEY, CIPHERTEXTS, PACKED, MESSAGES };
 enum { N = 24, M = 16, BASE_LOG = 4, ROWS = 4, ROOM = 8192 };
+enum { TALLIES = 1, COUNTS = 2 }; /* what is saved beside the words, as bits */
 
 /* ---- the draws of scripts/scheme01.py */
 
@@ -59,10 +61,56 @@ static void messages(struct draw *d, uint32_t *out, size_t count, uint32_t t)
         out[i] = below(d, t);
 }
 
+/* ---- what a ciphertext carries, and the calls that a release spelled otherwise */
+
+struct carried {
+    uint64_t tally;
+    uint32_t count;
+};
+
+static struct carried carried_by(saigagalena_tag tag)
+{
+#if SAIGAGALENA_VERSION >= 6
+    return (struct carried){tag.tally, tag.count};
+#else
+    return (struct carried){tag.tally, 1};
+#endif
+}
+
+static saigagalena_tag tag_of(struct carried x)
+{
+#if SAIGAGALENA_VERSION >= 6
+    return saigagalena_saved_tag(x.tally, x.count);
+#else
+    return saigagalena_saved_tag(x.tally);
+#endif
+}
+
+/* Rows of n + 1 words to rows of M + 1, and what each carries, in its place; the refusal. */
+static uint32_t switch_rows(uint32_t modulus, const uint32_t *key, size_t len, const uint32_t *rows, struct carried carried[ROWS], uint32_t *out)
+{
+#if SAIGAGALENA_VERSION >= 6
+    saigagalena_tag tags[ROWS];
+
+    for (size_t i = 0; i < ROWS; i++)
+        tags[i] = tag_of(carried[i]);
+    const uint32_t refusal = saigagalena_key_switch_batch(modulus, BASE_LOG, 0, N, M, key, len, rows, ROWS * (N + 1), tags, ROWS, out, ROWS * (M + 1));
+    for (size_t i = 0; i < ROWS; i++)
+        carried[i] = carried_by(tags[i]);
+    return refusal;
+#else
+    const saigagalena_answer answer = saigagalena_key_switch_batch(modulus, BASE_LOG, 0, N, M, key, len, rows, ROWS * (N + 1), out, ROWS * (M + 1));
+
+    for (size_t i = 0; i < ROWS; i++)
+        carried[i] = carried_by(answer.tag);
+    return answer.refusal;
+#endif
+}
+
 /* ---- files */
 
 struct head {
-    uint32_t kind, modulus, n, m, base_log, levels, t, bound, count;
+    uint32_t kind, modulus, n, m, base_log, levels, t, bound, count, beside;
 };
 
 static const char *folder;
@@ -75,11 +123,11 @@ static void called(const char *name, uint32_t refusal)
     }
 }
 
-/* The tally of what a call wrote. */
-static uint64_t written(const char *name, saigagalena_answer answer)
+/* What each ciphertext carries that a call wrote. */
+static struct carried written(const char *name, saigagalena_answer answer)
 {
     called(name, answer.refusal);
-    return answer.tag.tally;
+    return carried_by(answer.tag);
 }
 
 static unsigned char *put32(unsigned char *at, uint32_t x)
@@ -89,10 +137,11 @@ static unsigned char *put32(unsigned char *at, uint32_t x)
     return at;
 }
 
-/* The bytes of a file, and their number; no tallies where the pointer is null. */
-static size_t layout(unsigned char *bytes, struct head h, const uint32_t *w, size_t len, const uint64_t *tallies)
+/* The bytes of a file, and their number. A packed ciphertext carries one c for all its bodies. */
+static size_t layout(unsigned char *bytes, struct head h, const uint32_t *w, size_t len, const struct carried *carried)
 {
-    const uint32_t fields[] = {1, h.kind, h.modulus, h.n, h.m, h.base_log, h.levels, h.t, h.bound, h.count, (uint32_t)len, tallies != NULL, 0, 0, 0};
+    const uint32_t fields[] = {1, h.kind, h.modulus, h.n, h.m, h.base_log, h.levels, h.t, h.bound, h.count, (uint32_t)len, h.beside, 0, 0, 0};
+    const size_t ciphertexts = h.kind == PACKED ? 1 : h.count;
     unsigned char *at = bytes + 4;
 
     memcpy(bytes, "SGLN", 4);
@@ -100,10 +149,12 @@ static size_t layout(unsigned char *bytes, struct head h, const uint32_t *w, siz
         at = put32(at, fields[i]);
     for (size_t i = 0; i < len; i++)
         at = put32(at, w[i]);
-    for (size_t i = 0; tallies != NULL && i < h.count; i++) {
-        at = put32(at, (uint32_t)tallies[i]);
-        at = put32(at, (uint32_t)(tallies[i] >> 32));
+    for (size_t i = 0; h.beside & TALLIES && i < ciphertexts; i++) {
+        at = put32(at, (uint32_t)carried[i].tally);
+        at = put32(at, (uint32_t)(carried[i].tally >> 32));
     }
+    for (size_t i = 0; h.beside & COUNTS && i < ciphertexts; i++)
+        at = put32(at, carried[i].count);
     return (size_t)(at - bytes);
 }
 
@@ -120,11 +171,11 @@ static void write_bytes(const char *setting, const char *name, const char *suffi
     }
 }
 
-static void save(const char *setting, const char *name, const char *suffix, struct head h, const uint32_t *w, size_t len, const uint64_t *tallies)
+static void save(const char *setting, const char *name, const char *suffix, struct head h, const uint32_t *w, size_t len, const struct carried *carried)
 {
-    static unsigned char bytes[64 + 4 * ROOM + 8 * ROWS];
+    static unsigned char bytes[64 + 4 * ROOM + 12 * ROWS];
 
-    write_bytes(setting, name, suffix, bytes, layout(bytes, h, w, len, tallies));
+    write_bytes(setting, name, suffix, bytes, layout(bytes, h, w, len, carried));
 }
 
 /* ---- the files of one modulus */
@@ -133,15 +184,17 @@ struct release {
     const char *name;
     struct draw d;
     uint32_t t, bound, levels;
+    int counted; /* c is saved */
     uint32_t secret[N], group[M], key[ROOM], signed_key[ROOM], public_key[ROOM];
     int32_t signed_secret[N];
-    uint64_t fresh_tally;
-    uint32_t fresh[ROWS * (N + 1)], signed_fresh[ROWS * (N + 1)], summed[ROWS * (N + 1)];
+    uint32_t fresh[ROWS * (N + 1)], signed_fresh[ROWS * (N + 1)];
+    struct carried fresh_carried[ROWS], signed_carried[ROWS];
 };
 
-static struct head ciphertexts(const struct release *r, uint32_t n, uint32_t count)
+static struct head ciphertexts(const struct release *r, uint32_t n, uint32_t count, int tallied)
 {
-    return (struct head){.kind = CIPHERTEXTS, .modulus = r->d.modulus, .n = n, .t = r->t, .bound = r->bound, .count = count};
+    return (struct head){.kind = CIPHERTEXTS, .modulus = r->d.modulus, .n = n, .t = r->t, .bound = r->bound, .count = count,
+                         .beside = (tallied ? TALLIES : 0) | (r->counted ? COUNTS : 0)};
 }
 
 static void save_opens(const struct release *r, const char *name, const uint32_t *told, uint32_t count)
@@ -152,13 +205,13 @@ static void save_opens(const struct release *r, const char *name, const uint32_t
 }
 
 /* Rows, and what they open to under a secret of n words; a tally for each, or none. */
-static void save_rows(const struct release *r, const char *name, const uint32_t *rows, uint32_t n, uint32_t count, const uint32_t *secret, uint64_t tally)
+static void save_rows(const struct release *r, const char *name, const uint32_t *rows, uint32_t n, uint32_t count, const uint32_t *secret,
+                      const struct carried *carried)
 {
-    const uint64_t tallies[ROWS] = {tally, tally, tally, tally};
     const size_t len = (size_t)count * (n + 1);
     uint32_t told[ROWS];
 
-    save(r->name, name, "", ciphertexts(r, n, count), rows, len, tally == SAIGAGALENA_NO_TALLY ? NULL : tallies);
+    save(r->name, name, "", ciphertexts(r, n, count, carried[0].tally != SAIGAGALENA_NO_TALLY), rows, len, carried);
     called(name, saigagalena_decrypt_message_batch(r->d.modulus, n, r->t, secret, n, rows, len, told, count));
     save_opens(r, name, told, count);
 }
@@ -242,14 +295,16 @@ static void make_fresh(struct release *r)
     words(&r->d, masks, ROWS * N);
     numbers(&r->d, errors, ROWS, (int32_t)r->bound);
     messages(&r->d, told, ROWS, r->t);
-    r->fresh_tally = written("fresh", saigagalena_encrypt_message_batch(r->d.modulus, N, r->t, r->bound, 0, r->secret, N, masks, ROWS * N, errors, ROWS,
-                                                                        told, ROWS, r->fresh, ROWS * (N + 1)));
-    save_rows(r, "fresh", r->fresh, N, ROWS, r->secret, r->fresh_tally);
+    const struct carried each = written("fresh", saigagalena_encrypt_message_batch(r->d.modulus, N, r->t, r->bound, 0, r->secret, N, masks, ROWS * N,
+                                                                                   errors, ROWS, told, ROWS, r->fresh, ROWS * (N + 1)));
+
+    for (size_t i = 0; i < ROWS; i++)
+        r->fresh_carried[i] = each;
+    save_rows(r, "fresh", r->fresh, N, ROWS, r->secret, r->fresh_carried);
 }
 
 static void make_signed_fresh(struct release *r)
 {
-    uint64_t tallies[ROWS];
     uint32_t masks[ROWS * N], told[ROWS];
     int32_t errors[ROWS];
 
@@ -259,40 +314,55 @@ static void make_signed_fresh(struct release *r)
     for (size_t i = 0; i < ROWS; i++) {
         uint32_t *row = r->signed_fresh + i * (N + 1);
 
-        tallies[i] = written("signed fresh", saigagalena_encrypt_message_signed(r->d.modulus, N, r->t, r->bound, 1, r->signed_secret, N, masks + i * N, N,
-                                                                                errors + i, 1, told[i], row, N + 1));
+        r->signed_carried[i] = written("signed fresh", saigagalena_encrypt_message_signed(r->d.modulus, N, r->t, r->bound, 1, r->signed_secret, N,
+                                                                                          masks + i * N, N, errors + i, 1, told[i], row, N + 1));
         told[i] = (uint32_t)saigagalena_decrypt_message_signed(r->d.modulus, N, r->t, r->signed_secret, N, row, N + 1);
     }
-    save(r->name, "signed_fresh", "", ciphertexts(r, N, ROWS), r->signed_fresh, ROWS * (N + 1), tallies);
+    save(r->name, "signed_fresh", "", ciphertexts(r, N, ROWS, 1), r->signed_fresh, ROWS * (N + 1), r->signed_carried);
     save_opens(r, "signed_fresh", told, ROWS);
 }
 
-/* Each fresh ciphertext and the one after it, round. */
-static void make_summed(struct release *r)
-{
-    const saigagalena_tag tag = saigagalena_saved_tag(r->fresh_tally);
-    uint64_t tally = SAIGAGALENA_NO_TALLY;
+struct sums {
+    uint32_t rows[ROWS * (N + 1)];
+    struct carried carried[ROWS];
+};
 
-    memcpy(r->summed, r->fresh, sizeof r->fresh);
+/* The sum of `count` fresh ciphertexts, from the one at i on, round. */
+static void make_sum(const struct release *r, const char *name, size_t i, uint32_t count, struct sums *sums)
+{
+    for (uint32_t k = 1; k < count; k++) {
+        const size_t at = (i + k) % ROWS;
+        const saigagalena_tag tag = tag_of(sums->carried[i]), other = tag_of(r->fresh_carried[at]);
+
+        sums->carried[i] = written(name, saigagalena_add(r->d.modulus, N, sums->rows + i * (N + 1), N + 1, tag, r->fresh + at * (N + 1), N + 1, other));
+    }
+}
+
+static void make_sums(const struct release *r, const char *name, const uint32_t counts[ROWS], struct sums *sums)
+{
+    memcpy(sums->rows, r->fresh, sizeof r->fresh);
+    memcpy(sums->carried, r->fresh_carried, sizeof r->fresh_carried);
     for (size_t i = 0; i < ROWS; i++)
-        tally = written("summed", saigagalena_add(r->d.modulus, N, r->summed + i * (N + 1), N + 1, tag, r->fresh + (i + 1) % ROWS * (N + 1), N + 1, tag));
-    save_rows(r, "summed", r->summed, N, ROWS, r->secret, tally);
+        make_sum(r, name, i, counts[i], sums);
+    save_rows(r, name, sums->rows, N, ROWS, r->secret, sums->carried);
 }
 
 static void make_packed(struct release *r)
 {
     enum { MANY = N / 2 };
-    const struct head h = {.kind = PACKED, .modulus = r->d.modulus, .n = N, .t = r->t, .bound = r->bound, .count = MANY};
+    const struct head h = {.kind = PACKED, .modulus = r->d.modulus, .n = N, .t = r->t, .bound = r->bound, .count = MANY,
+                           .beside = r->counted ? COUNTS : 0};
     uint32_t mask[N], told[MANY], out[N + MANY];
     int32_t errors[MANY];
 
     words(&r->d, mask, N);
     numbers(&r->d, errors, MANY, (int32_t)r->bound);
     messages(&r->d, told, MANY, r->t);
-    written("packed", saigagalena_encrypt_message_packed(r->d.modulus, N, r->t, r->bound, 0, r->secret, N, mask, N, errors, MANY, told, MANY, out,
-                                                         N + MANY));
+    const struct carried all = written("packed", saigagalena_encrypt_message_packed(r->d.modulus, N, r->t, r->bound, 0, r->secret, N, mask, N, errors,
+                                                                                    MANY, told, MANY, out, N + MANY));
+
     called("packed", saigagalena_decrypt_message_packed(r->d.modulus, N, r->t, r->secret, N, out, N + MANY, told, MANY));
-    save(r->name, "packed", "", h, out, N + MANY, NULL);
+    save(r->name, "packed", "", h, out, N + MANY, &all);
     save_opens(r, "packed", told, MANY);
 }
 
@@ -300,7 +370,7 @@ static void make_public(struct release *r)
 {
     enum { COUNT = 3 };
     uint32_t told[COUNT], rows[COUNT * (N + 1)];
-    uint64_t tally = 0;
+    struct carried carried[COUNT];
 
     messages(&r->d, told, COUNT, r->t);
     for (size_t i = 0; i < COUNT; i++) {
@@ -308,27 +378,30 @@ static void make_public(struct release *r)
 
         numbers(&r->d, errors, N + 1, (int32_t)r->bound);
         numbers(&r->d, coefficients, N, 1);
-        tally = written("public", saigagalena_public_key_encrypt_message(r->d.modulus, N, r->t, r->bound, 0, r->public_key, N * (N + 1), errors, N + 1,
-                                                                         coefficients, N, told[i], rows + i * (N + 1), N + 1));
+        carried[i] = written("public", saigagalena_public_key_encrypt_message(r->d.modulus, N, r->t, r->bound, 0, r->public_key, N * (N + 1), errors,
+                                                                              N + 1, coefficients, N, told[i], rows + i * (N + 1), N + 1));
     }
-    save_rows(r, "public", rows, N, COUNT, r->secret, tally);
+    save_rows(r, "public", rows, N, COUNT, r->secret, carried);
 }
 
-static void make_switched(struct release *r, const char *name, const uint32_t *key, const uint32_t *rows)
+static void make_switched(struct release *r, const char *name, const uint32_t *key, const uint32_t *rows, const struct carried *carried)
 {
     uint32_t out[ROWS * (M + 1)];
+    struct carried switched[ROWS];
 
-    const uint64_t tally = written(name, saigagalena_key_switch_batch(r->d.modulus, BASE_LOG, 0, N, M, key, key_len(r), rows, ROWS * (N + 1), out,
-                                                                      ROWS * (M + 1)));
-
-    save_rows(r, name, out, M, ROWS, r->group, tally);
+    memcpy(switched, carried, sizeof switched);
+    called(name, switch_rows(r->d.modulus, key, key_len(r), rows, switched, out));
+    save_rows(r, name, out, M, ROWS, r->group, switched);
 }
 
-static void make_release(const char *name, uint32_t modulus, uint32_t t, uint64_t seed)
+static void make_release(const char *name, uint32_t modulus, uint32_t t, uint64_t seed, int counted)
 {
+    static const uint32_t twos[ROWS] = {2, 2, 2, 2}, many[ROWS] = {1, 4, 7, 3};
     static struct release r;
+    static struct sums summed, total;
 
     r.name = name;
+    r.counted = counted;
     r.d = (struct draw){seed, modulus};
     r.t = t;
     r.bound = 3;
@@ -339,11 +412,15 @@ static void make_release(const char *name, uint32_t modulus, uint32_t t, uint64_
     make_public_key(&r);
     make_fresh(&r);
     make_signed_fresh(&r);
-    make_summed(&r);
+    make_sums(&r, "summed", twos, &summed);
     make_packed(&r);
     make_public(&r);
-    make_switched(&r, "switched", r.key, r.summed);
-    make_switched(&r, "signed_switched", r.signed_key, r.signed_fresh);
+    make_switched(&r, "switched", r.key, summed.rows, summed.carried);
+    make_switched(&r, "signed_switched", r.signed_key, r.signed_fresh, r.signed_carried);
+    if (counted) {
+        make_sums(&r, "total", many, &total);
+        make_switched(&r, "switched_total", r.key, total.rows, total.carried);
+    }
 }
 
 /* ---- the pooling box's files, the damaged ones among them */
@@ -385,11 +462,12 @@ static void make_shop(struct release *r, int shop)
 
     words(&r->d, masks, (size_t)ROWS * n);
     numbers(&r->d, errors, ROWS, (int32_t)r->bound);
-    const uint64_t tally = written(name, saigagalena_encrypt_message_batch(r->d.modulus, n, r->t, r->bound, 0, r->secret, n, masks, (size_t)ROWS * n,
-                                                                           errors, ROWS, counts[shop - 1], ROWS, r->fresh, (size_t)ROWS * (n + 1)));
-    const uint64_t tallies[ROWS] = {tally, tally, tally, tally};
+    const struct carried each = written(name, saigagalena_encrypt_message_batch(r->d.modulus, n, r->t, r->bound, 0, r->secret, n, masks,
+                                                                                (size_t)ROWS * n, errors, ROWS, counts[shop - 1], ROWS, r->fresh,
+                                                                                (size_t)ROWS * (n + 1)));
+    const struct carried carried[ROWS] = {each, each, each, each};
 
-    len = layout(bytes, ciphertexts(r, n, ROWS), r->fresh, (size_t)ROWS * (n + 1), tallies);
+    len = layout(bytes, ciphertexts(r, n, ROWS, 1), r->fresh, (size_t)ROWS * (n + 1), carried);
     write_bytes(r->name, name, "", bytes, damage(shop, bytes, len, r->d.modulus));
 }
 
@@ -399,6 +477,7 @@ static void make_box(void)
     const struct head h = {.kind = SECRET, .modulus = 4294967291u, .n = M};
 
     r.name = "box";
+    r.counted = 1;
     r.d = (struct draw){104, 4294967291u};
     r.t = 1024;
     r.bound = 3;
@@ -418,11 +497,16 @@ int main(int argc, char **argv)
         return 2;
     }
     folder = argv[1];
-    make_release("release_1/native", 0, 256, 101);
-    make_release("release_1/prime", 132120577, 256, 102);
-    make_release("release_1/power", 1u << 27, 256, 103);
-    make_release("release_3/native", 0, 1000003, 105);
-    make_release("release_3/prime", 4294967291u, 1000003, 106);
+    make_release("release_1/native", 0, 256, 101, 0);
+    make_release("release_1/prime", 132120577, 256, 102, 0);
+    make_release("release_1/power", 1u << 27, 256, 103, 0);
+    make_release("release_3/native", 0, 1000003, 105, 0);
+    make_release("release_3/prime", 4294967291u, 1000003, 106, 0);
+#if SAIGAGALENA_VERSION >= 6
+    make_release("release_6/native", 0, 1000, 107, 1);
+    make_release("release_6/prime", 132120577, 1000, 108, 1);
+    make_release("release_6/power", 1u << 27, 1000, 109, 1);
+#endif
     make_box();
     return 0;
 }
