@@ -2,6 +2,8 @@
 use crate::agreed::PLACES;
 use crate::reasons;
 use check_order::Refusal;
+use key_switch::key_switch_batch_to;
+use key_switch_parameters::LweKeySwitchingParameters;
 use pooling::{LweDecryptionParameters, add_saved, begin_saved};
 use primus_lattice::LweTag;
 
@@ -25,6 +27,19 @@ impl Pool<'_> {
         }
         self.rows = self.rows.saturating_add(1);
         Ok(())
+    }
+
+    // Switches the total into `out`. Each place keeps its c, and no tally.
+    pub(crate) fn switch(
+        &mut self,
+        params: LweKeySwitchingParameters,
+        key: &[u32],
+        out: &mut [u32],
+    ) -> Result<(), Refusal> {
+        let mut tags = self.tags;
+        let answer = key_switch_batch_to(params, key, self.total, &mut tags, out);
+        self.tags = tags;
+        answer
     }
 
     // What each place carries, and its mark.

@@ -3,7 +3,6 @@ use crate::agreed::PLACES;
 use crate::pool::Pool;
 use crate::reasons;
 use check_order::Refusal;
-use key_switch::key_switch_batch_to;
 use key_switch_parameters::LweKeySwitchingParameters;
 use pooling::LweDecryptionParameters;
 use primus_decompose::ApproxSignedBasis;
@@ -61,8 +60,7 @@ fn serve<'a>(
         return None;
     }
     let _ = println!(rt; "the box switches the total to the group's key and sends it on");
-    let mut tags = pool.tags;
-    if let Err(reason) = key_switch_batch_to(params, key, pool.total, &mut tags, room) {
+    if let Err(reason) = pool.switch(params, key, room) {
         reasons::told(rt, "the switch", Err(reason));
         return None;
     }
