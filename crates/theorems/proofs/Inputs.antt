@@ -1,30 +1,29 @@
 -- A switch judged on another key or another input: what passed before passes again.
 -- Assumes nothing.
-use mathlib.Core.Path.{◌≡◌, sym, ap, ap₂, ◌∙◌}
+use mathlib.Core.Path.{◌≡◌}
 use mathlib.Core.Bool.{Bool, false}
 use mathlib.Core.List.{List, [], ◌∷◌, ◌++◌}
 use Prim.Native.Nat.{ℕ}
 use lib.ListN.{length}
-use Rattle.scheme.specs.Checks.{row, refusal, length_fails, words_fail}
+use Rattle.scheme.specs.Checks.{row, refusal, first_in, words_fail}
 use Rattle.scheme.proofs.Order.{passed, neither}
+use Rattle.lwe_tag.specs.declared.LweTag.{LweTag}
 use Rattle.key_switch_parameters.specs.declared.LweKeySwitchingParameters.{LweKeySwitchingParameters}
-use Rattle.key_switch_parameters.specs.Answers.{q_in, key_words, parameter_rows}
-use Rattle.key_switch.specs.Answers.{input_rows}
+use Rattle.key_switch_parameters.specs.Answers.{q_in, parameter_rows}
+use Rattle.key_switch.specs.Answers.{batch_rows}
 
--- the refusal by what 9, 10, 11, and 14 of the key and of the input, say
-abbrev refusal_by : LweKeySwitchingParameters → Bool → Bool → Bool → Bool → Bool → ℕ
-refusal_by P short bad wrong foreign words =
-    refusal (parameter_rows P ++ row short 9 ∷ row bad 10 ∷ row wrong 11 ∷ row foreign 14 ∷ row words 14 ∷ [])
+-- the refusal by what 9, 10, 11, 12, 14 of the key and of the input, and 17, say
+abbrev pub refusal_by : LweKeySwitchingParameters → Bool → Bool → Bool → Bool → Bool → Bool → Bool → ℕ
+refusal_by P short bad wrong lent foreign words tags =
+    refusal (parameter_rows P ++ row short 9 ∷ row bad 10 ∷ row wrong 11 ∷ row foreign 14 ∷ row words 14 ∷ row lent 12 ∷ row tags 17 ∷ [])
 
-pub inputs-accepted : (P : LweKeySwitchingParameters) (key X : List ℕ) (bad wrong : Bool) → refusal (input_rows P key X bad wrong) ≡ 0
-    → (made Y : List ℕ) (ill off : Bool) → length_fails (length made) (key_words P) ≡ false → words_fail (q_in P) made ≡ false
-    → ill ≡ false → off ≡ false → words_fail (q_in P) Y ≡ false → refusal (input_rows P made Y ill off) ≡ 0
-inputs-accepted P key X bad wrong e made Y ill off nine fourteen ten eleven words =
-    let q = q_in P in
-    let short = length_fails (length key) (key_words P) in
-    let no = passed (input_rows P key X bad wrong) e in
-    let both = neither (words_fail q key) (words_fail q X) (no 14 tt) in
-    ap₂ (λ x y. refusal_by P x y off (words_fail q made) (words_fail q Y)) (nine ∙ sym (no 9 tt)) (ten ∙ sym (no 10 tt))
-    ∙ ap₂ (λ x y. refusal_by P short bad x y (words_fail q Y)) (eleven ∙ sym (no 11 tt)) (fourteen ∙ sym both.0)
-    ∙ ap (λ x. refusal_by P short bad wrong (words_fail q key) x) (words ∙ sym both.1)
-    ∙ e
+none_again : (P : LweKeySwitchingParameters) (a b c d e f g : Bool) → refusal_by P a b c d e f g ≡ 0 → refusal_by P false false false false false false false ≡ 0
+none_again P a b c d e f g h =
+    let no = passed (parameter_rows P ++ row a 9 ∷ row b 10 ∷ row c 11 ∷ row e 14 ∷ row f 14 ∷ row d 12 ∷ row g 17 ∷ []) h in
+    let words = neither e f (no 14 tt) in
+    rw (no 9 tt, no 10 tt, no 11 tt, no 12 tt, words.0, words.1, no 17 tt) at h
+
+pub inputs-accepted : (P : LweKeySwitchingParameters) (key X : List ℕ) (gs : List LweTag) (room : ℕ) → refusal (batch_rows P key X gs room) ≡ 0
+    → {a b c d e f g : Bool} → a ≡ false → b ≡ false → c ≡ false → d ≡ false → e ≡ false → f ≡ false → g ≡ false
+    → refusal_by P a b c d e f g ≡ 0
+inputs-accepted P key X gs room h ea eb ec ed ee ef eg = rw (ea, eb, ec, ed, ee, ef, eg) (none_again P _ _ _ _ _ _ _ h)

@@ -13,7 +13,6 @@ use native.Mathlib.Omega.{arith}
 use lib.Pow.{pow_pos}
 use lib.IntN.{ℤ}
 use lib.ListN.{length}
-use Rattle.std.proofs.Common.{Ok}
 use Rattle.scheme.specs.Modulus.{Fits}
 use Rattle.scheme.specs.Basis.{Basis}
 use Rattle.scheme.specs.Lwe.{Key, secret_of, key_length, words, row_of, Errors, error_count, error_values, error_at}
@@ -25,9 +24,8 @@ use Rattle.scheme.proofs.Switch.{generated-length, generated-below}
 use Rattle.scheme.proofs.Same.{demand_3}
 use Rattle.primus_reduce.specs.Ring.{meant}
 use Rattle.primus_decompose.specs.Answers.{basis}
-use Rattle.scheme.specs.Tally.{Switched}
-use Rattle.lwe_tag.specs.Answers.{tag_from}
-use Rattle.lwe_tag.proofs.Writes as W
+use Rattle.lwe_tag.specs.declared.LweTag.{LweTag}
+use Rattle.lwe_tag.specs.Answers.{switched_tags}
 use Rattle.key_switch_parameters.specs.declared.LweKeySwitchingParameters.{LweKeySwitchingParameters}
 use Rattle.key_switch_parameters.specs.Answers.{q_in, n_in, m_in, levels_in, key_words, parameter_rows}
 use Rattle.key_switch_entries.specs.Answers.{generate_rows}
@@ -36,7 +34,7 @@ use Rattle.key_switch_parameters.proofs.Passed.{judged}
 use Rattle.key_switch.specs.Answers.{batch_rows, SwitchesBatch}
 use Rattle.key_switch.proofs.Passed.{batch_passed}
 use Rattle.theorems.specs.Choices.{EqualOutputs, Choice}
-use Rattle.theorems.proofs.Calls.{wrote, written, words_fit, length_fit}
+use Rattle.theorems.proofs.Calls.{wrote, words_fit, length_fit}
 use Rattle.theorems.proofs.Inputs.{inputs-accepted}
 use Rattle.theorems.proofs.Switching.{basis-accepted, lent_masks}
 
@@ -77,58 +75,67 @@ module _ (P : LweKeySwitchingParameters) (word : Fits 32 (meant P.basis.modulus)
   abbrev count : List ℕ → ℕ
   count X = length X / (n_in P + 1)
 
-  pub batch_any_masks : (s s' e : ℕ → ℤ) (masks key X : List ℕ) (room : ℕ) → length masks ≡ n_in P * levels_in P * m_in P → Below (q_in P) masks
-      → refusal (batch_rows P key X room) ≡ 0 → refusal (batch_rows P (generated (basis P.basis) (n_in P) (m_in P) s s' e masks) X room) ≡ 0
-  batch_any_masks s s' e masks key X room l w ex =
+  pub batch_any_masks : (s s' e : ℕ → ℤ) (masks key X : List ℕ) (gs : List LweTag) (room : ℕ) → length masks ≡ n_in P * levels_in P * m_in P → Below (q_in P) masks
+      → refusal (batch_rows P key X gs room) ≡ 0 → refusal (batch_rows P (generated (basis P.basis) (n_in P) (m_in P) s s' e masks) X gs room) ≡ 0
+  batch_any_masks s s' e masks key X gs room l w ex =
       let made = generated b (n_in P) (m_in P) s s' e masks in
       let q : 0 < q_in P = omega (arith, (basis-accepted P word _ ex).fits, pow_pos P.basis.log_basis.0) in
-      let no = passed (batch_rows P key X room) ex in
-      inputs-accepted P key X _ _ ex made X _ _ (length_fit _ _ (generated-length b (n_in P) (m_in P) s s' e masks l))
-      (words_fit (q_in P) made (generated-below b (n_in P) (m_in P) s s' e masks l q w)) (no 10 tt) (no 11 tt)
-      (neither (words_fail (q_in P) key) (words_fail (q_in P) X) (no 14 tt)).1
+      let no = passed (batch_rows P key X gs room) ex in
+      inputs-accepted P key X gs room ex (length_fit _ _ (generated-length b (n_in P) (m_in P) s s' e masks l)) (no 10 tt) (no 11 tt) (no 12 tt)
+      (words_fit (q_in P) made (generated-below b (n_in P) (m_in P) s s' e masks l q w))
+      (neither (words_fail (q_in P) key) (words_fail (q_in P) X) (no 14 tt)).1 (no 17 tt)
 
   -- the same over the definitions, for batches that are accepted with any keys
-  pub demand_3_accepted : (s s' e : ℕ → ℤ) (keyX X : List ℕ) (roomX : ℕ) (keyY Y : List ℕ) (roomY : ℕ)
-      → refusal (batch_rows P keyX X roomX) ≡ 0 → refusal (batch_rows P keyY Y roomY) ≡ 0
+  pub demand_3_accepted : (s s' e : ℕ → ℤ) (keyX X : List ℕ) (gX : List LweTag) (roomX : ℕ) (keyY Y : List ℕ) (gY : List LweTag) (roomY : ℕ)
+      → refusal (batch_rows P keyX X gX roomX) ≡ 0 → refusal (batch_rows P keyY Y gY roomY) ≡ 0
       → (t u : ℕ) → t < length X / (n_in P + 1) → u < length Y / (n_in P + 1)
       → Demand3 (basis P.basis) (n_in P) (m_in P) s s' e (length X / (n_in P + 1)) X t (length Y / (n_in P + 1)) Y u
-  demand_3_accepted s s' e keyX X roomX keyY Y roomY ex ey t u ht hu =
-      let x = batch_passed {P = P} {key = keyX} {input = X} {room = roomX} (sym ex) in
-      let y = batch_passed {P = P} {key = keyY} {input = Y} {room = roomY} (sym ey) in
+  demand_3_accepted s s' e keyX X gX roomX keyY Y gY roomY ex ey t u ht hu =
+      let x = batch_passed {P = P} {key = keyX} {input = X} {room = roomX} gX (sym ex) in
+      let y = batch_passed {P = P} {key = keyY} {input = Y} {room = roomY} gY (sym ey) in
       demand_3 b (basis-accepted P word _ ex) (n_in P) (m_in P) s s' e (omega (arith, (judged P _ ex).output_some)) (count X) X t (count Y) Y u x.inputs y.inputs x.words y.words ht hu
 
-  module _ (E : ℕ) (key : Key) (s' : List ℕ) (errors : Errors) {one over k keyX X overX x keyY Y overY y : List ℕ}
-      (generates : Generates P E key s' one errors over 0 k) (switches_x : SwitchesBatch P keyX X overX (Ok (tag_from Switched)) x) (switches_y : SwitchesBatch P keyY Y overY (Ok (tag_from Switched)) y) where
+  module _ (E : ℕ) (key : Key) (s' : List ℕ) (errors : Errors) {one over k keyX X overX x keyY Y overY y : List ℕ} {gX gY : List LweTag}
+      (generates : Generates P E key s' one errors over 0 k) (switches_x : SwitchesBatch P keyX X gX overX 0 (switched_tags gX) x)
+      (switches_y : SwitchesBatch P keyY Y gY overY 0 (switched_tags gY) y) where
     abbrev made : List ℕ → List ℕ
     made masks = generated b (n_in P) (m_in P) (secret_of key) (words s') (error_at (q_in P) errors) masks
 
-    pub every_choice : (masks : List ℕ) → length masks ≡ n_in P * levels_in P * m_in P → Below (q_in P) masks → Choice P E key s' errors over X overX Y overY masks
+    -- what the batch call leaves with another key, where this one is accepted
+    again : (masks keyZ Z overZ z : List ℕ) (gZ : List LweTag) → length masks ≡ n_in P * levels_in P * m_in P → Below (q_in P) masks
+        → SwitchesBatch P keyZ Z gZ overZ 0 (switched_tags gZ) z
+        → SwitchesBatch P (made masks) Z gZ overZ 0 (switched_tags gZ) (switched_batch b (n_in P) (m_in P) (made masks) (count Z) Z)
+    again masks keyZ Z overZ z gZ l w s =
+        let ok = batch_any_masks (secret_of key) (words s') (error_at (q_in P) errors) masks keyZ Z gZ (length overZ) l w (wrote s.writes).0 in
+        record { writes = done ok refl; keeps = done ok refl }
+
+    pub every_choice : (masks : List ℕ) → length masks ≡ n_in P * levels_in P * m_in P → Below (q_in P) masks → Choice P E key s' errors over X gX overX Y gY overY masks
     every_choice masks l w =
         record {
           k = made masks;
           x = switched_batch b (n_in P) (m_in P) (made masks) (count X) X;
           y = switched_batch b (n_in P) (m_in P) (made masks) (count Y) Y;
           generates = record { writes = done (generate_any_masks P E key s' one masks errors (length over) l w (wrote generates.writes).0) refl };
-          switches_x = record { writes = W.done (sym (batch_any_masks (secret_of key) (words s') (error_at (q_in P) errors) masks keyX X (length overX) l w (written switches_x.writes).0)) refl refl };
-          switches_y = record { writes = W.done (sym (batch_any_masks (secret_of key) (words s') (error_at (q_in P) errors) masks keyY Y (length overY) l w (written switches_y.writes).0)) refl refl };
+          switches_x = again masks keyX X overX x gX l w switches_x;
+          switches_y = again masks keyY Y overY y gY l w switches_y;
         }
 
     module _ (t u : ℕ) (ht : t < length X / (n_in P + 1)) (hu : u < length Y / (n_in P + 1)) where
       by_definition : Demand3 b (n_in P) (m_in P) (secret_of key) (words s') (error_at (q_in P) errors) (count X) X t (count Y) Y u
       by_definition =
-          demand_3_accepted (secret_of key) (words s') (error_at (q_in P) errors) keyX X (length overX) keyY Y (length overY) (written switches_x.writes).0 (written switches_y.writes).0 t u ht hu
+          demand_3_accepted (secret_of key) (words s') (error_at (q_in P) errors) keyX X gX (length overX) keyY Y gY (length overY) (wrote switches_x.writes).0 (wrote switches_y.writes).0 t u ht hu
 
-      there : EqualOutputs P E key s' errors over X overX t Y overY u → OutputsAgree b (n_in P) (m_in P) (secret_of key) (words s') (error_at (q_in P) errors) (count X) X t (count Y) Y u
+      there : EqualOutputs P E key s' errors over X gX overX t Y gY overY u → OutputsAgree b (n_in P) (m_in P) (secret_of key) (words s') (error_at (q_in P) errors) (count X) X t (count Y) Y u
       unfolding OutputsAgree every_choice
       there f masks l w = let o = every_choice masks l w in f masks o.k o.x o.y o.generates o.switches_x o.switches_y
 
-      back : OutputsAgree b (n_in P) (m_in P) (secret_of key) (words s') (error_at (q_in P) errors) (count X) X t (count Y) Y u → EqualOutputs P E key s' errors over X overX t Y overY u
+      back : OutputsAgree b (n_in P) (m_in P) (secret_of key) (words s') (error_at (q_in P) errors) (count X) X t (count Y) Y u → EqualOutputs P E key s' errors over X gX overX t Y gY overY u
       unfolding OutputsAgree
       back f masks k x y g sx sy c h =
           let made-it = wrote g.writes in
           let masked = masks_of (error_words_fail (q_in P) errors) (key_fails (q_in P) key) (words_fail (q_in P) s') (words_fail (q_in P) masks) (passed (generate_rows P E key s' masks errors (length over)) made-it.0 14 tt) in
-          rw ((written sx.writes).1, (written sy.writes).1, made-it.1)
+          rw ((wrote sx.writes).1, (wrote sy.writes).1, made-it.1)
           (f masks (lent_masks P word E key s' masks errors (length over) made-it.0) (words_ok (q_in P) masks masked) c h)
 
-      pub demand_3_of_calls : EqualOutputs P E key s' errors over X overX t Y overY u ↔ ReadingsAgree (basis P.basis) (n_in P) (row_of (n_in P) X t) (row_of (n_in P) Y u)
+      pub demand_3_of_calls : EqualOutputs P E key s' errors over X gX overX t Y gY overY u ↔ ReadingsAgree (basis P.basis) (n_in P) (row_of (n_in P) X t) (row_of (n_in P) Y u)
       demand_3_of_calls = ((λ f. by_definition.0 (there f)), (λ r. back (by_definition.1 r)))

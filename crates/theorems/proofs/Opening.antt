@@ -8,12 +8,12 @@
 use mathlib.Core.Path.{◌≡◌, refl, sym, ap, ◌∙◌}
 use mathlib.Core.Bool.{Bool, true, false, not, ◌||◌}
 use mathlib.Core.List.{List}
-use Prim.Native.Nat.{ℕ, ◌+◌, ◌*◌, ◌/◌, ◌%◌, ◌<◌, ◌≤◌}
+use Prim.Native.Nat.{ℕ, ◌+◌, ◌*◌, ◌^◌, ◌/◌, ◌%◌, ◌<◌, ◌≤◌}
 use native.Mathlib.Nat.{mul-mod_left, mul-div_cancel}
 use native.Mathlib.Omega.{arith}
 use lib.IntN.{ℤ, pos, nat_abs, ◌+ℤ◌}
 use lib.ListN.{length, get_or, take, drop}
-use borrow.Author.Tests.{eq-eqb, ne_eqb, ltb-true}
+use borrow.Author.Tests.{eq-eqb, ltb-true, le-ltb}
 use Rattle.std.proofs.Common.{Result, Ok}
 use Rattle.check_order.specs.declared.refusal.Refusal.{Refusal}
 use Rattle.scheme.specs.Numbers.{residue, tabulate}
@@ -34,10 +34,11 @@ use Rattle.primus_reduce.specs.Ring.{size_of}
 use Rattle.primus_reduce.specs.declared.modulus.Modulus.{Modulus}
 use Rattle.codec_words.specs.declared.embedding.PlaintextEmbedding.{PlaintextEmbedding}
 use Rattle.codec_words.specs.Embedding.{meant_embedding}
-use Rattle.scheme.specs.Tally.{Fresh, Present, good}
+use Rattle.scheme.specs.Tally.{Carried, Fresh, carried_from, good}
 use Rattle.lwe_tag.specs.declared.LweTag.{LweTag}
 use Rattle.check_order.proofs.Answers.{answered_ok}
-use Rattle.lwe_tag.specs.Answers.{tally_of, tag_from, no_tally, mark_rows, mark_answer}
+use Rattle.lwe_tag.specs.Answers.{carried_of, tag_from, mark_rows, mark_answer}
+use Rattle.lwe_tag.proofs.Laws.{tag_back}
 use Rattle.lwe_parameters.specs.declared.parameter.LweEncryptionParameters.{LweEncryptionParameters}
 use Rattle.lwe_parameters.specs.declared.parameter.LweParameters.{LweParameters}
 use Rattle.lwe_parameters.specs.Answers.{phases_of, decryption_of}
@@ -51,16 +52,19 @@ use Rattle.theorems.specs.Phases.{HasPhase}
 use Rattle.theorems.proofs.Calls.{written, settled, told, words_fit, length_fit}
 use Rattle.theorems.proofs.Encryption.{encrypt_phase, batch_masks}
 
--- what is_good answers of a tag that an encryption gave: where it is true the mark's inequality holds
+-- what is_good answers true of carries a good mark
+pub marked_carried : (m : Modulus) (t : ℕ) (tag : LweTag) (c : Carried) → carried_of tag ≡ c → mark_answer tag m t ≡ Ok true → good (size_of m) t c ≡ true
+marked_carried m t tag c same e = ap (good (size_of m) t) (sym same) ∙ sym (answered_ok (mark_rows tag m t) _ true (sym e)).1
+
+-- of a tag that an encryption gave
+fresh_carried : (q E : ℕ) {tag : LweTag} → tag ≡ tag_from (Fresh E) → error_limit_fails q E ≡ false → carried_of tag ≡ carried_from (Fresh E)
+fresh_carried q E same limit = ap carried_of same ∙ tag_back (carried_from (Fresh E)) (rw (le-ltb (2 ^ 32) E (omega (arith, (error_limit_ok q E limit).0))) refl)
+
 pub marked_good : (E : ℕ) (m : Modulus) (t : ℕ) {tag : LweTag} → tag ≡ tag_from (Fresh E) → error_limit_fails (size_of m) E ≡ false
     → mark_answer tag m t ≡ Ok true → 2 * t * E + t < size_of m
-marked_good E m t {tag} same limit e =
-    let marked : true ≡ good (size_of m) t (tally_of tag) = (answered_ok (mark_rows tag m t) _ true (sym e)).1 in
-    ltb-true (2 * t * E + t) (size_of m) (sym (marked ∙ ap (λ (g : LweTag). good (size_of m) t (tally_of g)) same ∙ ap (good (size_of m) t) present))
-  where
-    -- E is no number that stands for no tally
-    present : tally_of (tag_from (Fresh E)) ≡ Present E
-    present = rw (ne_eqb E no_tally (λ z. omega (arith, (error_limit_ok (size_of m) E limit).0)))
+marked_good E m t same limit e =
+    let l : 2 * t * E + 1 * t < size_of m = ltb-true (2 * t * E + 1 * t) (size_of m) (marked_carried m t _ (carried_from (Fresh E)) (fresh_carried (size_of m) E same limit) e) in
+    omega arith
 
 -- ---- one ciphertext
 

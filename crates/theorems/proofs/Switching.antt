@@ -86,24 +86,24 @@ module _ (P : LweKeySwitchingParameters) (word : Fits 32 (meant P.basis.modulus)
       }
 
   pub batch_switched-accepted : (room : ℕ) → refusal (generate_rows P E key s' masks errors room) ≡ 0
-      → (X : List ℕ) (out : ℕ) → refusal (batch_rows P made X out) ≡ 0 → (t : ℕ) → t < length X / (n_in P + 1)
+      → (X : List ℕ) (gs : List LweTag) (out : ℕ) → refusal (batch_rows P made X gs out) ≡ 0 → (t : ℕ) → t < length X / (n_in P + 1)
       → Switched b (n_in P) (m_in P) key s' errors E (row_of (n_in P) X t) (row_of (m_in P) (switched_batch b (n_in P) (m_in P) made (length X / (n_in P + 1)) X) t)
-  batch_switched-accepted room e X out f t h =
-      let x = batch_passed {P = P} {key = made} {input = X} {room = out} (sym f) in
+  batch_switched-accepted room e X gs out f t h =
+      let x = batch_passed {P = P} {key = made} {input = X} {room = out} gs (sym f) in
       rw (batch_row b (n_in P) (m_in P) made (length X / (n_in P + 1)) X t h)
       (switched-accepted room e (row_of (n_in P) X t) (λ i k. row_below (q_in P) (n_in P) (length X / (n_in P + 1)) X t h x.inputs x.words i (omega arith)))
 
   module _ {blank k : List ℕ} (c : Generates P E key s' masks errors blank 0 k) where
-    pub switch_phase : {x before after : List ℕ} {tag : LweTag} → Switches P k x before (Ok tag) after → Switched (basis P.basis) (n_in P) (m_in P) key s' errors E x after
-    switch_phase {x} {before} d =
-        let g = wrote c.writes in
+    pub switch_phase : {x before after : List ℕ} {g tag : LweTag} → Switches P k x g before (Ok tag) after → Switched (basis P.basis) (n_in P) (m_in P) key s' errors E x after
+    switch_phase {x} {before} {after} {g} d =
+        let made-it = wrote c.writes in
         let w = written d.writes in
-        let o = one_passed {P = P} {key = k} {input = x} {room = length before} (sym w.0) in
-        rw (w.1, g.1) (switched-accepted (length blank) g.0 x (λ i h. o.words i (omega (arith, o.inputs))))
+        let o = one_passed {P = P} {key = k} {input = x} {room = length before} g (sym w.0) in
+        rw (w.1, made-it.1) (switched-accepted (length blank) made-it.0 x (λ i h. o.words i (omega (arith, o.inputs))))
 
-    pub batch_switch_phase : {X before after : List ℕ} {tag : LweTag} → SwitchesBatch P k X before (Ok tag) after → (t : ℕ) → t < length X / (n_in P + 1)
+    pub batch_switch_phase : {X before after : List ℕ} {gs hs : List LweTag} → SwitchesBatch P k X gs before 0 hs after → (t : ℕ) → t < length X / (n_in P + 1)
         → Switched (basis P.basis) (n_in P) (m_in P) key s' errors E (row_of (n_in P) X t) (row_of (m_in P) after t)
-    batch_switch_phase {X} {before} d =
-        let g = wrote c.writes in
-        let w = written d.writes in
-        rw (w.1, g.1) (batch_switched-accepted (length blank) g.0 X (length before) (rw g.1 at w.0))
+    batch_switch_phase {X} {before} {after} {gs} d =
+        let made-it = wrote c.writes in
+        let w = wrote d.writes in
+        rw (w.1, made-it.1) (batch_switched-accepted (length blank) made-it.0 X gs (length before) (rw made-it.1 at w.0))
