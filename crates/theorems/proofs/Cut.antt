@@ -14,7 +14,6 @@ use lib.ListN.{length, get_or, take, drop, length-append, length-take, length-dr
 use lib.Seq.{get_or-append-add, drop_at, drop-drop, ext_get_or}
 use borrow.Author.Tests.{eq-eqb}
 use Rattle.std.proofs.Common.{Result, Ok}
-use Rattle.std.specs.List.{list_any}
 use Rattle.std.proofs.lemmas.List.Folds.{list_any-append, list_any_at}
 use Rattle.check_order.specs.declared.refusal.Refusal.{Refusal}
 use Rattle.scheme.specs.Basis.{Basis}

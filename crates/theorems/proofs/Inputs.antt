@@ -4,12 +4,11 @@ use mathlib.Core.Path.{◌≡◌}
 use mathlib.Core.Bool.{Bool, false}
 use mathlib.Core.List.{List, [], ◌∷◌, ◌++◌}
 use Prim.Native.Nat.{ℕ}
-use lib.ListN.{length}
-use Rattle.scheme.specs.Checks.{row, refusal, first_in, words_fail}
+use Rattle.scheme.specs.Checks.{row, refusal}
 use Rattle.scheme.proofs.Order.{passed, neither}
 use Rattle.lwe_tag.specs.declared.LweTag.{LweTag}
 use Rattle.key_switch_parameters.specs.declared.LweKeySwitchingParameters.{LweKeySwitchingParameters}
-use Rattle.key_switch_parameters.specs.Answers.{q_in, parameter_rows}
+use Rattle.key_switch_parameters.specs.Answers.{parameter_rows}
 use Rattle.key_switch.specs.Answers.{batch_rows}
 
 -- the refusal by what 9, 10, 11, 12, 14 of the key and of the input, and 17, say

@@ -7,3 +7,4 @@ pub mod Inputs
 pub mod Masks
 pub mod Cut
 pub mod Digits
+pub mod Totals

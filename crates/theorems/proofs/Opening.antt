@@ -57,7 +57,7 @@ pub marked_carried : (m : Modulus) (t : ℕ) (tag : LweTag) (c : Carried) → ca
 marked_carried m t tag c same e = ap (good (size_of m) t) (sym same) ∙ sym (answered_ok (mark_rows tag m t) _ true (sym e)).1
 
 -- of a tag that an encryption gave
-fresh_carried : (q E : ℕ) {tag : LweTag} → tag ≡ tag_from (Fresh E) → error_limit_fails q E ≡ false → carried_of tag ≡ carried_from (Fresh E)
+pub fresh_carried : (q E : ℕ) {tag : LweTag} → tag ≡ tag_from (Fresh E) → error_limit_fails q E ≡ false → carried_of tag ≡ carried_from (Fresh E)
 fresh_carried q E same limit = ap carried_of same ∙ tag_back (carried_from (Fresh E)) (rw (le-ltb (2 ^ 32) E (omega (arith, (error_limit_ok q E limit).0))) refl)
 
 pub marked_good : (E : ℕ) (m : Modulus) (t : ℕ) {tag : LweTag} → tag ≡ tag_from (Fresh E) → error_limit_fails (size_of m) E ≡ false
@@ -81,7 +81,7 @@ phase-word : (q n : ℕ) (x : List ℕ) (s : ℕ → ℤ) (z : ℤ) → 0 < q �
 phase-word q n x s z h c = sym (word-residue q (phase_of q n x s) (phase-below q n x s _ h refl)) ∙ residue_cong h c
 
 -- of 14 over errors, key and masks: the key and the masks
-others : (es key masks : Bool) → ((masks || key) || es) ≡ false → (key ≡ false) × (masks ≡ false)
+pub others : (es key masks : Bool) → ((masks || key) || es) ≡ false → (key ≡ false) × (masks ≡ false)
 others es key masks e = neither key masks (neither es (masks || key) e).1
 
 module _ (P : LweEncryptionParameters) (key : Key) (a : List ℕ) (es : Errors) (p : ℕ) where
@@ -120,7 +120,7 @@ module _ (P : LweParameters) (g : PlaintextEmbedding) (key : Key) (a : List ℕ)
       rw (no 2 tt, no 6 tt, no 7 tt, no 8 tt, no 9 tt, f.0, keyed, f.1)
 
   -- an accepted error is within ±E
-  within : (room : ℕ) → refusal (message_rows P key a es x room) ≡ 0 → nat_abs (error_at (size_of P.modulus) es 0) ≤ P.error_limit
+  pub within : (room : ℕ) → refusal (message_rows P key a es x room) ≡ 0 → nat_abs (error_at (size_of P.modulus) es 0) ≤ P.error_limit
   within room e =
       let no = passed (message_rows P key a es x room) e in
       let one : error_count es ≡ 1 = length_ok _ _ (neither (length_fails (length a) P.dimension.0) (length_fails (error_count es) 1) (no 12 tt)).1 in
@@ -156,7 +156,7 @@ module _ (P : LweParameters) (g : PlaintextEmbedding) (key : Key) (masks : List 
   ciphertexts = encrypted_rows (size_of P.modulus) P.dimension.0 (length xs) masks (secret_of key) (error_at (size_of P.modulus) es) (encodings g P xs)
 
   -- a row for each message, of words below q
-  rows_fit : (room : ℕ) → refusal (encrypt_batch_rows P key masks es xs room) ≡ 0
+  pub rows_fit : (room : ℕ) → refusal (encrypt_batch_rows P key masks es xs room) ≡ 0
       → (length ciphertexts ≡ length xs * (P.dimension.0 + 1)) × Below (size_of P.modulus) ciphertexts
   unfolding encrypted_rows
   rows_fit room e =
@@ -168,6 +168,13 @@ module _ (P : LweParameters) (g : PlaintextEmbedding) (key : Key) (masks : List 
         rows-below q (length xs) _ (λ i h. encrypted-below q n positive _ (secret_of key) (error_at (size_of P.modulus) es i) (encodings g P xs i) (part_below q n masks i (words_ok q masks fourteen.1))),
       )
 
+  -- the accepted error of row i is within ±E
+  pub row_within_limit : (room : ℕ) → refusal (encrypt_batch_rows P key masks es xs room) ≡ 0 → (i : ℕ) → i < length xs → nat_abs (error_at (size_of P.modulus) es i) ≤ P.error_limit
+  row_within_limit room e i k =
+      let no = passed (encrypt_batch_rows P key masks es xs room) e in
+      let few : error_count es ≡ length xs = length_ok _ _ (neither (length_fails (length masks) (length xs * P.dimension.0)) (length_fails (error_count es) (length xs)) (no 12 tt)).1 in
+      omega (arith, magnitudes_ok (P.error_limit + 1) (error_values (size_of P.modulus) es) (no 15 tt) i (omega (arith, error_length (size_of P.modulus) es)))
+
   pub row-decoded : (room : ℕ) → refusal (encrypt_batch_rows P key masks es xs room) ≡ 0
       → 2 * P.plaintext_modulus * P.error_limit + P.plaintext_modulus < size_of P.modulus → (i : ℕ) → i < length xs
       → decode (size_of P.modulus) P.plaintext_modulus (batch_phase (size_of P.modulus) P.dimension.0 key ciphertexts i) ≡ get_or xs i 0
@@ -176,10 +183,9 @@ module _ (P : LweParameters) (g : PlaintextEmbedding) (key : Key) (masks : List 
       let n = P.dimension.0 in
       let (positive, l) = batch_masks P g key masks es xs room e in
       let no = passed (encrypt_batch_rows P key masks es xs room) e in
-      let few : error_count es ≡ length xs = length_ok _ _ (neither (length_fails (length masks) (length xs * n)) (length_fails (error_count es) (length xs)) (no 12 tt)).1 in
       rw (row-encrypted q n (length xs) i masks (secret_of key) (error_at (size_of P.modulus) es) (encodings g P xs) l k)
       (opens_fresh q positive n (take n (drop (i * n) masks)) (secret_of key) (row_mask n (length xs) i masks l k) (meant_embedding g) P.plaintext_modulus (get_or xs i 0) P.error_limit
-      (error_at (size_of P.modulus) es i) (words_ok _ xs (no 16 tt) i k) h (omega (arith, magnitudes_ok (P.error_limit + 1) (error_values (size_of P.modulus) es) (no 15 tt) i (omega (arith, error_length (size_of P.modulus) es)))))
+      (error_at (size_of P.modulus) es i) (words_ok _ xs (no 16 tt) i k) h (row_within_limit room e i k))
 
   pub row-accepted : (room : ℕ) → refusal (encrypt_batch_rows P key masks es xs room) ≡ 0 → (i : ℕ) → i < length xs
       → refusal (decrypt_rows (decryption_of P) key (row_of P.dimension.0 ciphertexts i)) ≡ 0

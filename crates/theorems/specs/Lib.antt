@@ -3,3 +3,4 @@ pub mod Phases
 pub mod Switched
 pub mod Choices
 pub mod Rebuilt
+pub mod Formed
