@@ -1,4 +1,5 @@
-"""Test vectors for LWE ciphertexts, computed from document 01, with any t below q (T-10) and errors of either form (T-01).
+"""Test vectors for LWE ciphertexts, computed from document 01, with any t below q (T-10), errors of either form (T-01) and
+c, the number of encryptions summed (T-02).
 
     python3 scripts/lwe_vectors.py          write the file
     python3 scripts/lwe_vectors.py --check  compare with the stored file
@@ -14,20 +15,27 @@ little-endian. A record is a head of 60 bytes and the words that its lengths ann
 The class of each call says what it takes from value, a .. e and the buffer. The answer is what an accepted
 call gives beside the buffer. After a refusal the answer is 0 and the buffer is what it was.
 
+Where a call is lent tags, or answers one that the record says, c goes on with them: four words for each tag that is lent, where it
+comes from, the low and the high word of the tally, and c; then, where the call is not refused, three words for each tag that it
+answers or leaves: the tally, 2^64 - 1 for none, and c. A refused call leaves the tags that it is lent.
+
 How document 01 is read, where it leaves a choice:
 - A number applies exactly when the call takes the operand that it speaks of; the lowest that applies is the
   answer, over the whole call. An opening takes no E, so it has no 13.
 - 9 and 10 speak of what is read, 11 of what is written, 12 of what is lent for randomness.
 - A dimension is judged by its kind, before the call that is to take it. So no record has 2 and 6 both.
 - A plaintext is a word (14); a message has 16 only, also where it is not below q.
-- A given tally above 2^32 is refused by 17 even where the other ciphertext has none.
+- A given tally above 2^32 is refused by 17 even where the other ciphertext has none, and so is a c above 65,536; c 0 is served.
+- A tally saved without c is not kept.
 - An error word not below q has 14, and what it counts as has 15 too where it lies outside ±E: then 14 is the answer.
 """
 
 import struct
 import sys
+from collections import namedtuple
 from copy import copy
 from dataclasses import dataclass, field, replace
+from math import gcd
 
 sys.dont_write_bytecode = True  # importing must leave no file in the repository
 
@@ -66,6 +74,8 @@ class Case:
     d: list = field(default_factory=list)
     e: list = field(default_factory=list)
     out: list = field(default_factory=list)
+    tags: list = field(default_factory=list)
+    carried: list = field(default_factory=list)
     # of key switching only: switch_vectors.py
     m: int = 0
     base_log: int = 0
@@ -133,6 +143,58 @@ def extracted(q, n, x, i):
         else:
             mask[j - n + i] -= x[j]
     return [w % q for w in mask] + [x[n + i]]
+
+
+# --- What a ciphertext carries: document 01, with c (T-02) ---
+
+NO_TALLY = 2**64 - 1
+
+# A call that gives no tally; an encryption, whose tally is E; saved data with c, and without; saved data with c, then switched.
+NONE, FRESH, GIVEN, ABSENT, KEPT = range(5)
+
+# A tally of None is none; c.
+Carried = namedtuple("Carried", "tally count")
+
+
+@dataclass(frozen=True)
+class Tag:
+    """Where a tag comes from, and the numbers that are given there."""
+
+    source: int
+    tally: int = 0
+    count: int = 1
+
+    def words(self):
+        return [self.source, self.tally % 2**32, self.tally >> 32, self.count]
+
+
+def carried_of(tag):
+    """c is 1 when fresh and kept by a switch; what was saved without it is read as c 1 with no tally."""
+    held = tag.source in (FRESH, GIVEN) and tag.tally != NO_TALLY
+    return Carried(tag.tally if held else None, tag.count if tag.source in (GIVEN, KEPT) else 1)
+
+
+def carried_words(x):
+    tally = NO_TALLY if x.tally is None else x.tally
+    return [tally % 2**32, tally >> 32, x.count]
+
+
+def summed(x, y):
+    """A sum with one that has no tally has none; c is added in any case."""
+    return Carried(None if None in (x.tally, y.tally) else x.tally + y.tally, x.count + y.count)
+
+
+def kept(x):
+    """After a switch, and of a body taken out of a packed ciphertext."""
+    return Carried(None, x.count)
+
+
+def exceeds(x):
+    return (x.tally is not None and x.tally > 2**32) or x.count > 65536
+
+
+def good(q, t, x):
+    return x.tally is not None and 2 * t * x.tally + x.count * t < q
 
 
 # --- What each number says ---
@@ -395,127 +457,148 @@ class Parameters(EncryptionParameters):
     takes_t = True
 
 
-NONE, FRESH, GIVEN, ABSENT = range(4)
+class Tagged:
+    """A call that is lent tags; given what these say, `afterwards` is what those say that it answers or leaves."""
+
+    # Tags to which 17 applies, for one call each.
+    bad_tags = ()
+
+    def afterwards(self, given):
+        return []
+
+    def tagged(self, k, *tags):
+        return replace(k, tags=[*tags], carried=self.afterwards([carried_of(x) for x in tags]))
+
+    def tag_rows(self, k):
+        yield 17, any(map(exceeds, [*map(carried_of, k.tags), *k.carried]))
+
+    def faults(self, k, number, draw):
+        if number == 17:
+            yield from (self.tagged(k, *tags) for tags in self.placed(k))
+        else:
+            yield from super().faults(k, number, draw)
+
+    def placed(self, k):
+        """The tags to lend, one list for each fault."""
+        return self.bad_tags
 
 
-def tag(source, tally=0):
-    """Where a tag comes from: a call that gives none, an encryption, saved data with a tally or without."""
-    return [source, tally % 2**32, tally >> 32]
+TALLIES = [
+    Tag(NONE), Tag(ABSENT), Tag(FRESH, 0), Tag(FRESH, 1), Tag(FRESH, LIMIT), Tag(FRESH, WORD_MAX), Tag(GIVEN, 0),
+    Tag(GIVEN, 1), Tag(GIVEN, 2**31), Tag(GIVEN, 2**31 + 1), Tag(GIVEN, 2**32 - 1), Tag(GIVEN, 2**32),
+    Tag(GIVEN, 2**32 + 1), Tag(GIVEN, 2**63), Tag(GIVEN, 2**64 - 2**32), Tag(GIVEN, NO_TALLY),
+]
+
+# Tags with a c that a switch and a sample keep,
+KEPT_TAGS = [
+    Tag(NONE), Tag(FRESH, 3), Tag(FRESH, WORD_MAX), Tag(ABSENT, 7),
+    *(Tag(GIVEN, tally, c) for c in (0, 1, 2, 65536) for tally in (0, 2**32, NO_TALLY)),
+    *(Tag(KEPT, 5, c) for c in (0, 1, 2, 65536)),
+]
+
+# and those that 17 refuses: by c, by the tally, and by both.
+BAD_TAGS = [
+    *(Tag(GIVEN, tally, c) for c in (65537, 131072, 2**31, WORD_MAX) for tally in (0, NO_TALLY)),
+    Tag(KEPT, 5, 65537), Tag(GIVEN, 2**32 + 1, 1), Tag(GIVEN, 2**63, 0), Tag(GIVEN, NO_TALLY - 1, 65536),
+    Tag(GIVEN, 2**32 + 1, 65537),
+]
 
 
-def tally_of(words):
-    """The tally, or None, which a tag holds as 2^64 - 1. A fresh single secret-key ciphertext has tally E."""
-    source, low, high = words
-    tally = low + 2**32 * high
-    return tally if source in (FRESH, GIVEN) and tally != 2**64 - 1 else None
+def drawn_tags(k, count):
+    """Tags for a call that keeps c, drawn apart from its words."""
+    draw = Draw((sum(k.b) + k.n) % 2**32)
+    return [draw.choose(KEPT_TAGS) for _ in range(count)]
 
 
-def tag_of(tally):
-    return tag(NONE) if tally is None else tag(GIVEN, tally)
-
-
-def exceeds(tally):
-    return tally is not None and tally > 2**32
-
-
-class TagSum(Call):
-    """add_assign of zeros with the tags a and b; the sum's tag is c."""
+class TagSum(Tagged, Call):
+    """add_assign of zeros with two tags: that of the sum."""
 
     kind, name = 4, "tally sum"
     numbers = [17]
 
     def rows(self, k):
-        x, y = tally_of(k.a), tally_of(k.b)
-        yield 17, exceeds(x) or exceeds(y) or (x is not None and y is not None and exceeds(x + y))
+        yield from self.tag_rows(k)
+
+    def afterwards(self, given):
+        return [summed(*given)]
 
     def make(self, x, y):
-        a, b = tally_of(x), tally_of(y)
-        return Case(None, 1, a=x, b=y, c=tag_of(None if a is None or b is None else (a + b) % 2**64))
+        return self.tagged(Case(None, 1), x, y)
 
     def result(self, k):
         return 0, []
 
 
-class Mark(Call):
-    """LweTag::is_good(modulus, t) of the tag a; the answer is 1 where it is marked good."""
+class Mark(Tagged, Call):
+    """LweTag::is_good(modulus, t) of a tag; the answer is 1 where it is marked good."""
 
     kind, name = 5, "mark"
     numbers = [2, 7, 8, 17]
     takes_t = True
+    bad_tags = [[Tag(GIVEN, x)] for x in (2**32 + 1, 2**63, NO_TALLY)]
 
     def rows(self, k):
         yield 2, k.modulus is not None and k.modulus < 4
         yield from plaintext_rows(k)
-        yield 17, exceeds(tally_of(k.a))
+        yield from self.tag_rows(k)
 
     def make(self, p):
-        return Case(p.modulus, 1, t=p.t, a=tag(p.draw.choose([NONE, FRESH, GIVEN]), p.draw.below(2**20)))
-
-    def faults(self, k, number, draw):
-        if number == 17:
-            yield from (replace(k, a=tag(GIVEN, x)) for x in (2**32 + 1, 2**63, 2**64 - 1))
-        else:
-            yield from super().faults(k, number, draw)
+        return Case(p.modulus, 1, t=p.t, tags=[Tag(p.draw.choose([NONE, FRESH, GIVEN]), p.draw.below(2**20))])
 
     def result(self, k):
-        tally = tally_of(k.a)
-        return int(tally is not None and 2 * k.t * tally + k.t < k.q), []
+        return int(good(k.q, k.t, carried_of(*k.tags))), []
 
 
-class Add(Call):
-    """add_assign(modulus, n, x, y): x is the buffer, y is b; a holds the tag of x and then that of y, c that of the sum."""
+class Add(Tagged, Call):
+    """add_assign(modulus, n, x, y): x is the buffer, y is b; two tags are lent, that of x and that of y."""
 
     kind, name = 6, "sum"
-    fields = {10: ("out", "b"), 14: ("out", "b"), 17: ("a",)}
+    fields = {10: ("out", "b"), 14: ("out", "b"), 17: ("tags",)}
+    bad_tags = [
+        [Tag(GIVEN, 2**32 + 1), Tag(NONE)], [Tag(FRESH, 7), Tag(GIVEN, 2**63)], [Tag(GIVEN, 2**32), Tag(FRESH, 1)],
+    ]
 
     def own_rows(self, k):
         yield 10, len(k.out) != k.n + 1 or len(k.b) != k.n + 1
         yield 14, words_fail(k.q, k.out) or words_fail(k.q, k.b)
-        x, y = self.tallies(k)
-        yield 17, exceeds(x) or exceeds(y) or (x is not None and y is not None and exceeds(x + y))
+        yield from self.tag_rows(k)
 
-    @staticmethod
-    def tallies(k):
-        return tally_of(k.a[:3]), tally_of(k.a[3:])
-
-    def tagged(self, k, x, y):
-        a, b = tally_of(x), tally_of(y)
-        return replace(k, a=x + y, c=tag_of(None if a is None or b is None else (a + b) % 2**64))
+    def afterwards(self, given):
+        return [summed(*given)]
 
     def make(self, p):
         k = self.operands(p, out=p.words(p.n + 1), b=p.words(p.n + 1))
         draw = Draw(sum(k.b) % 2**32)
-        served = [x for x in TALLIES if not exceeds(tally_of(x))]
-        k = self.tagged(k, draw.choose(served), draw.choose(served))
-        return self.tagged(k, tag(FRESH, 1), tag(FRESH, 2)) if 17 in {n for n, holds in self.own_rows(k) if holds} else k
-
-    def faults(self, k, number, draw):
-        if number == 17:
-            yield self.tagged(k, tag(GIVEN, 2**32 + 1), tag(NONE))
-            yield self.tagged(k, tag(FRESH, 7), tag(GIVEN, 2**63))
-            yield self.tagged(k, tag(GIVEN, 2**32), tag(FRESH, 1))
-        else:
-            yield from super().faults(k, number, draw)
+        served = [x for x in TALLIES if not exceeds(carried_of(x))]
+        tags = [draw.choose(served), draw.choose(served)]
+        k = self.tagged(k, *(replace(x, count=draw.choose([0, 1, 2, 1000, 32768])) for x in tags))
+        return self.tagged(k, Tag(FRESH, 1), Tag(FRESH, 2)) if 17 in {n for n, holds in self.own_rows(k) if holds} else k
 
     def result(self, k):
         return 0, [(x + y) % k.q for x, y in zip(k.out, k.b)]
 
 
-class Extract(Call):
-    """extract_lwe_at(modulus, n, b, value, buffer): the sample of body `value`."""
+class Extract(Tagged, Call):
+    """extract_lwe_at(modulus, n, b, its tag, value, buffer): the sample of body `value`, which keeps c."""
 
     kind, name = 7, "sample"
     fields = {10: ("b",), 11: ("out",), 14: ("b",)}
+    bad_tags = [[x] for x in BAD_TAGS]
 
     def own_rows(self, k):
         yield 10, len(k.b) < k.n or len(k.b) > 2 * k.n or len(k.b) <= k.n + k.value
         yield 11, len(k.out) != k.n + 1
         yield 14, words_fail(k.q, k.b)
+        yield from self.tag_rows(k)
+
+    def afterwards(self, given):
+        return [*map(kept, given)]
 
     def make(self, p, count=None):
         count = 1 + p.draw.below(p.n) if count is None else count
         index = p.draw.choose([0, count - 1, p.draw.below(count)])
-        return self.operands(p, b=p.words(p.n + count), value=index, out=p.room(p.n + 1))
+        k = self.operands(p, b=p.words(p.n + count), value=index, out=p.room(p.n + 1))
+        return self.tagged(k, *drawn_tags(k, 1))
 
     def faults(self, k, number, draw):
         yield from super().faults(k, number, draw)
@@ -921,6 +1004,76 @@ class PublicMessage(PublicEncoded):
         return Codec(k.modulus, k.t).embed(k.value, k.centered)
 
 
+class Saved(Tagged, Call):
+    """LweTag::fresh, untallied, saved and without_tally: what the tag says."""
+
+    kind, name = 33, "tags"
+
+    def rows(self, k):
+        return ()
+
+    def afterwards(self, given):
+        return given
+
+    def result(self, k):
+        return 0, []
+
+
+@dataclass(frozen=True)
+class Single:
+    """One encryption of a total."""
+
+    E: int
+    centered: bool
+    message: int
+    error: int
+
+
+class Total(Secret):
+    """Messages encrypted to the places 0, 1, .. of the buffer, `value` of them with masks b and errors e, then `m` additions of the
+    ciphertext at one place to that at another, with the tags that the calls answer; what is at place 0 is the total, and the answer is
+    what it opens to. c is E, embedding and message of each encryption, the places of each addition, where the sum stands first, and 1
+    where the total is marked good, 0 where it is not; the total's tag follows."""
+
+    kind, name = 34, "total"
+    takes_t, takes_E = True, False
+    fields = {14: (), 15: ()}
+
+    def own_rows(self, k):
+        return ()
+
+    def of(self, p, singles, additions):
+        held, sums = [Carried(x.E, 1) for x in singles], [x.message for x in singles]
+        for i, j in additions:
+            held[i], sums[i] = summed(held[i], held[j]), sums[i] + sums[j]
+        marked = good(p.q, p.t, held[0])
+        c = [w for x in singles for w in (x.E, x.centered, x.message)]
+        c += [place for pair in additions for place in pair]
+        count = len(singles)
+        k = self.operands(
+            p, **self.key(p), b=p.words(count * p.n), c=c + [marked], e=[self.lent_as(p.q, x.error) for x in singles],
+            value=count, m=len(additions), out=p.room(count * (p.n + 1)), carried=[held[0]],
+        )
+        assert not any(map(exceeds, held)) and (not marked or self.result(k)[0] == sums[0] % p.t)
+        return k
+
+    def lent_as(self, q, error):
+        return error if self.kind < WORDED else error % q
+
+    def result(self, k):
+        codec, s, numbers = Codec(k.modulus, k.t), self.secret(k), rows_of(k.c[: 3 * k.value], 3)
+        plain = [codec.embed(message, centered) for _, centered, message in numbers]
+        rows = rows_of(encrypted_rows(k.q, k.n, k.b, s, self.errors(k), plain), k.n + 1)
+        for i, j in rows_of(k.c[3 * k.value : -1], 2):
+            rows[i] = [(x + y) % k.q for x, y in zip(rows[i], rows[j])]
+        return codec.decode(phase_of(k.q, rows[0], s)), [w for row in rows for w in row]
+
+
+class TotalSigned(Total):
+    kind, name = 35, "total, signed key"
+    signed = True
+
+
 # --- Records ---
 
 
@@ -937,14 +1090,16 @@ def record(call, k):
 def written(kind, k, refusal, answer, after):
     """The record of a call of this kind, with what it answered."""
     assert len(after) == len(k.out) and all(0 <= w < 2**32 for w in after)
-    lists = (k.a, k.b, k.c, k.d, k.e, k.out)
+    carried = [] if refusal else [w for x in k.carried for w in carried_words(x)]
+    tags = [w for x in k.tags for w in x.words()]
+    lists = (k.a, k.b, k.c + tags + carried, k.d, k.e, k.out)
     assert all(len(words) <= room for words, room in zip(lists, ROOMS))
     head = HEAD.pack(
         kind, k.modulus is not None, k.modulus or 0, k.n, k.t, k.E, k.centered, refusal, k.value, answer,
         *map(len, lists), k.m, k.base_log, k.levels,
     )
     signed = [w % 2**32 for w in k.d + k.e]
-    words = [*k.a, *k.b, *k.c, *signed, *k.out, *([] if refusal else after)]
+    words = [*k.a, *k.b, *lists[2], *signed, *k.out, *([] if refusal else after)]
     assert len(words) <= 16384
     return head + struct.pack(f"<{len(words)}I", *words)
 
@@ -1165,13 +1320,6 @@ def long_cases():
     yield PublicEncoded, PublicEncoded().make(Pick(draw, None, 63))
 
 
-TALLIES = [
-    tag(NONE), tag(ABSENT), tag(FRESH, 0), tag(FRESH, 1), tag(FRESH, LIMIT), tag(FRESH, WORD_MAX), tag(GIVEN, 0),
-    tag(GIVEN, 1), tag(GIVEN, 2**31), tag(GIVEN, 2**31 + 1), tag(GIVEN, 2**32 - 1), tag(GIVEN, 2**32),
-    tag(GIVEN, 2**32 + 1), tag(GIVEN, 2**63), tag(GIVEN, 2**64 - 2**32), tag(GIVEN, 2**64 - 1),
-]
-
-
 def marks():
     """Tallies about the equality 2t x tally + t = q, and the largest."""
     for t, tally in (
@@ -1182,15 +1330,15 @@ def marks():
         for modulus in (equal - 1, equal, equal + 1):
             if modulus < 2**32:
                 for a in sorted({max(tally - 1, 0), tally, tally + 1}):
-                    yield Case(modulus, 1, t=t, a=tag(GIVEN, a))
-                    yield Case(modulus, 1, t=t, a=tag(FRESH, a))
+                    yield Case(modulus, 1, t=t, tags=[Tag(GIVEN, a)])
+                    yield Case(modulus, 1, t=t, tags=[Tag(FRESH, a)])
     for modulus in MODULI:
         for t in (2, 4, 15, 65536, CENTS, 2**31, 2**32 - 1):
             for a in TALLIES:
-                yield Case(modulus, 1, t=t, a=a)
+                yield Case(modulus, 1, t=t, tags=[a])
             edge = ((2**32 if modulus is None else modulus) - t) // (2 * t)
             for a in sorted({max(edge - 1, 0), max(edge, 0), max(edge + 1, 0)}):
-                yield Case(modulus, 1, t=t, a=tag(GIVEN, a))
+                yield Case(modulus, 1, t=t, tags=[Tag(GIVEN, a)])
 
 
 def cents():
@@ -1205,18 +1353,238 @@ def cents():
             for m, centered in zip(counts, (False, True, False))
         ]
         words = [EncryptMessage().result(k)[1] for k in rows]
-        total, tally = words[0], 3
+        total, held = words[0], Tag(FRESH, 3)
         for row in words[1:]:
-            k = Add().tagged(Case(modulus, 4, out=total, b=row), tag(FRESH, tally), tag(FRESH, 3))
+            k = Add().tagged(Case(modulus, 4, out=total, b=row), held, Tag(FRESH, 3))
             made[Add].append(k)
-            total, tally = Add().result(k)[1], tally + 3
+            total, held = Add().result(k)[1], Tag(GIVEN, *k.carried[0])
         opening = Case(modulus, 4, t=CENTS, a=secret, b=total)
-        mark = Case(modulus, 1, t=CENTS, a=tag(FRESH, tally))
+        mark = Case(modulus, 1, t=CENTS, tags=[held])
         assert Open().result(opening)[0] == sum(counts) % CENTS and Mark().result(mark)[0] == 1
         made[EncryptMessage] += rows
         made[Mark].append(mark)
         made[Open].append(opening)
     return made
+
+
+# Two c that are summed: served up to 65,536, and 0 too; refused above, given or summed, and where 32 bits would wrap.
+COUNT_PAIRS = [
+    (1, 1), (0, 0), (0, 1), (65535, 1), (1, 65535), (32768, 32768), (65536, 0), (0, 65536), (65536, 1), (1, 65536), (65535, 2),
+    (65537, 0), (0, 65537), (WORD_MAX, 0), (0, WORD_MAX), (WORD_MAX, 1), (1, WORD_MAX), (WORD_MAX, 2), (2**31, 2**31),
+    (WORD_MAX, 65537), (2**31, 2**31 + 65536), (WORD_MAX, WORD_MAX),
+]
+TALLY_PAIRS = [
+    (0, 0), (7, 2**32 - 7), (2**32, 0), (NO_TALLY, NO_TALLY), (5, NO_TALLY), (NO_TALLY, 2**32), (2**31, 2**31 + 1), (2**32 + 1, NO_TALLY),
+]
+
+
+def tag_pairs():
+    """Each two c with each two tallies; then c beside tags that are given none."""
+    for c, d in COUNT_PAIRS:
+        yield from ([Tag(GIVEN, x, c), Tag(GIVEN, y, d)] for x, y in TALLY_PAIRS)
+    for others in (Tag(NONE), Tag(FRESH, 3), Tag(ABSENT, 7), Tag(ABSENT, 2**32 + 1), Tag(ABSENT, NO_TALLY)):
+        for c in (0, 1, 65535, 65536):
+            yield from ([others, x] for x in (Tag(GIVEN, 4, c), Tag(KEPT, 4, c)))
+            yield [Tag(KEPT, 2**40, c), others]
+
+
+def count_marks():
+    """2t x tally + c x t about q, and where 32 or 64 bits are too few for it."""
+    for t, tally, c in (
+        (3, 0, 6), (3, 0, 3), (2, 0, 2), (2, 1, 0), (3, 1, 2), (5, 0, 7), (5, 9, 0), (16, 1000, 65536), (255, 7, 300), (2, 0, 65536),
+        (65535, 0, 65536), (65536, 0, 65535), (65536, 0, 65536), (65536, 32767, 2), (65536, 32768, 0), (65537, 32767, 1),
+        (CENTS, 2000, 294), (CENTS, 0, 4294), (2**31 - 1, 0, 2), (2**31, 0, 2), (2**31, 1, 0), (2**30, 1, 2), (2**30, 0, 4), (2**30, 2, 0),
+    ):
+        equal = 2 * t * tally + c * t
+        moduli = [None if q == 2**32 else q for q in (equal - 1, equal, equal + 1, 2**32) if t < q <= 2**32]
+        for modulus in moduli:
+            for d in sorted({max(c - 1, 0), c, c + 1}):
+                yield Case(modulus, 1, t=t, tags=[Tag(GIVEN, tally, d)])
+    for c in (0, 1, 3, 4, 6):
+        yield Case(10, 1, t=3, tags=[Tag(GIVEN, 0, c)])
+    for modulus in (None, 2**32 - 1):
+        for t in (2, 3, 65535, 65536, 65537, 2**31, 2**32 - 2, 2**32 - 1):
+            for tally in (0, 1, 2**30 - 1, 2**30, 2**31, 2**32, 2**32 + 1, NO_TALLY):
+                yield from (Case(modulus, 1, t=t, tags=[Tag(GIVEN, tally, c)]) for c in (0, 1, 2, 65535, 65536, 65537, WORD_MAX))
+    for x in KEPT_TAGS:
+        yield from (Case(modulus, 1, t=2, tags=[x]) for modulus in (5, 2**31, None))
+
+
+def given_tags(call):
+    """Every tag that a call keeps or sums, and refuses: on words, which a refused call leaves."""
+    draw = Draw(1200 + call.kind)
+    lists = list(tag_pairs()) if isinstance(call, Add) else [[x] for x in KEPT_TAGS + BAD_TAGS]
+    for tags in lists:
+        yield from (call.tagged(call.make(Pick(draw, modulus, 1 + draw.below(3))), *tags) for modulus in (17, None))
+
+
+def tag_refusals(call, bad_tags):
+    """17 by these tags, alone and with every other number."""
+    draw = Draw(1100 + call.kind)
+    only = copy(call)
+    only.fields, only.bad_tags = {**call.fields, 17: ("tags",)}, bad_tags
+    for modulus in (16, 2**32 - 5):
+        yield from only.faults(only.make(Pick(draw, modulus, 2)), 17, draw)
+    for other in only.numbers:
+        for _ in range(6 if other != 17 else 0):
+            k = refused(only, (other, 17), draw)
+            assert k is not None, (call.name, other)
+            yield k
+
+
+def tags_of_each():
+    """Where a tag can come from, with any numbers."""
+    yield Tag(NONE)
+    yield from (Tag(FRESH, E) for E in (0, 1, 3, LIMIT, WORD_MAX))
+    for tally in (0, 1, 2**32 - 1, 2**32, 2**32 + 1, 2**63, NO_TALLY - 1, NO_TALLY):
+        yield Tag(ABSENT, tally)
+        for source in (GIVEN, KEPT):
+            yield from (Tag(source, tally, c) for c in (0, 1, 2, 65535, 65536, 65537, WORD_MAX))
+
+
+# --- Totals, from the encryptions to what they open to ---
+
+
+def chain(count):
+    return [(0, i) for i in range(1, count)]
+
+
+def backwards(count):
+    return [(i - 1, i) for i in range(count - 1, 0, -1)]
+
+
+def halving(count):
+    steps = [2**i for i in range(count.bit_length()) if 2**i < count]
+    return [(i, i + step) for step in steps for i in range(0, count - step, 2 * step)]
+
+
+def any_tree(draw, count):
+    """Any two places that are left, until only the first is."""
+    left, additions = list(range(count)), []
+    while len(left) > 1:
+        j = left.pop(1 + draw.below(len(left) - 1))
+        additions.append((draw.choose(left), j))
+    return additions
+
+
+def repeated(x, y):
+    """Two places that are added to each other until they hold x and y encryptions, which have no common factor; then both together."""
+    additions = [(0, 1)]
+    while x != y:
+        additions.append((0, 1) if x > y else (1, 0))
+        x, y = (x - y, y) if x > y else (x, y - x)
+    assert x == 1
+    return additions[::-1]
+
+
+def rounding(q, t, message, centered):
+    """t times what encoding adds to m x q / t."""
+    return nearest(q * t, (Codec(q, t).embed(message, centered) * t - message * q) % (q * t))
+
+
+def worst(draw, q, t):
+    """The messages and embeddings that are rounded down and up the most."""
+    messages = range(t) if t <= 300 else {0, t - 1, t // 2, *(draw.below(t) for _ in range(20))}
+    if t > 300 and gcd(q, t) == 1:
+        # m x q is about half of t, from below or above, modulo t
+        messages |= {half * pow(q, -1, t) % t for half in (t // 2, -(t // 2), (t - 1) // 2, -((t - 1) // 2))}
+    choices = sorted((rounding(q, t, m, centered), m, centered) for m in messages for centered in (False, True))
+    return choices[0], choices[-1]
+
+
+def trees(draw, count):
+    return draw.choose([chain, backwards, halving, lambda n: any_tree(draw, n)])(count)
+
+
+# E of each encryption of a total.
+LIMITS = [[0], [1], [0, 0], [0, 0, 0], [1, 0, 2], [3] * 5, [0] * 7, [2, 2, 0, 1], [0] * 16, [5, 0, 0, 7, 1, 1], [100, 0, 4096], [LIMIT, LIMIT]]
+TIGHT_MODULI = [10, 16, 17, 33, 97, 100, 257, 65536, 65537, 2**31 - 1, 2**31, 2**32 - 5, 2**32 - 1, None]
+
+
+def tight_totals(draw):
+    """The largest t, and one less, at which a total is marked good, with every error and rounding at its extreme, and the same with one
+    encryption more, which often opens wrongly."""
+    for modulus in TIGHT_MODULI:
+        q = Case(modulus, 1).q
+        for limits in LIMITS:
+            most = (q - 1) // (2 * sum(limits) + len(limits))
+            for t in {most, most - 1}:
+                if 2 <= t < q and max(limits) < q // 2:
+                    yield from extreme_totals(draw, modulus, t, limits)
+
+
+def extreme_totals(draw, modulus, t, limits):
+    q = Case(modulus, 1).q
+    for sign, (_, message, centered) in zip((-1, 1), worst(draw, q, t)):
+        singles = [Single(E, centered, message, sign * E) for E in limits]
+        for count in (len(singles), len(singles) + 1):
+            p = Pick(draw, modulus, 1 + draw.below(3), t=t)
+            yield p, (singles + [Single(0, centered, message, 0)])[:count], trees(draw, count)
+
+
+def mixed_totals(draw):
+    """Any messages with either embedding, any errors, in any tree."""
+    for modulus in (97, 1000, 65536, 65537, 2**31 - 1, 2**32 - 5, None):
+        for t in (2, 3, 7, 10, 16, 1000, 65535, CENTS):
+            count = 1 + draw.below(12)
+            E = draw.choose([0, 1, 3, 40])
+            if max(t, E) < (modulus or 2**32):
+                p = Pick(draw, modulus, 1 + draw.below(4), t=t)
+                limits = [draw.choose([0, E, draw.below(E + 1)]) for _ in range(count)]
+                singles = [Single(x, draw.below(2) == 1, p.message(), p.between(-x, x)) for x in limits]
+                yield p, singles, trees(draw, count)
+
+
+def repeated_totals(draw):
+    """Many encryptions, up to 65,536, by adding sums to each other."""
+    for modulus, t, x, y in (
+        (None, 65535, 40503, 25033), (None, 65535, 1, 2), (2**32 - 5, 65534, 40503, 25033), (None, 65536, 40503, 25033), (None, 65521, 25, 16),
+        (2**31 - 1, 46337, 28657, 17711), (2**31 - 1, 46368, 28657, 17711), (None, 7, 40503, 25033),
+    ):
+        p = Pick(draw, modulus, 2, t=t)
+        for _, message, centered in worst(draw, p.q, t):
+            yield p, [Single(0, centered, message, 0)] * 2, repeated(x, y)
+            yield p, [Single(0, centered, message, 0), Single(1, False, 1, -1)], repeated(x, y)
+
+
+def ten():
+    """Document 02's own total: q 10, t 3, six encryptions of 1. Each is 3 of 10, so six are 8, which opens to 2; of three, 9 opens to 0."""
+    p = Pick(Draw(1300), 10, 1, t=3)
+    for count, marked, opened in ((6, False, 2), (3, True, 0)):
+        for centered in (False, True):
+            for tree in (chain, backwards, halving):
+                singles = [Single(0, centered, 1, 0)] * count
+                k = Total().of(p, singles, tree(count))
+                assert k.c[-1] == marked and Total().result(k)[0] == opened
+                yield p, singles, tree(count)
+
+
+def totals():
+    """Calls with their cases; key and errors are words or signed numbers in turn."""
+    draw = Draw(1400)
+    made = [(call, []) for call in TOTAL_CALLS]
+    asked = [*ten(), *tight_totals(draw), *mixed_totals(draw), *repeated_totals(draw)]
+    for number, (p, singles, additions) in enumerate(asked):
+        call, cases = made[number % 4]
+        cases.append(call.of(p, singles, additions))
+    return made
+
+
+def check_totals(made):
+    """Some totals are marked good just below q, and some that are not open wrongly."""
+    cases = [(call, k) for call, cases in made for k in cases]
+    tight = [k for _, k in cases if k.c[-1] and k.q - k.t < 2 * k.t * k.carried[0].tally + k.carried[0].count * k.t]
+    wrong = [k for call, k in cases if call.result(k)[0] != opened_to(k)]
+    assert len(tight) > 100 and len(wrong) > 100 and not any(k.c[-1] for k in wrong)
+    print(f"totals: {len(cases)}, good {sum(k.c[-1] for _, k in cases)}, of which within t of q {len(tight)}; not good and open wrongly {len(wrong)}")
+
+
+def opened_to(k):
+    """The sum of the messages modulo t."""
+    sums = k.c[2 : 3 * k.value : 3]
+    for i, j in rows_of(k.c[3 * k.value : -1], 2):
+        sums[i] += sums[j]
+    return sums[0] % k.t
 
 
 def dimensions():
@@ -1235,6 +1603,15 @@ CALLS = [
 
 WORDED_CALLS = [worded(call) for call in CALLS if 15 in call.fields]
 
+TOTAL_CALLS = [Total(), worded(TotalSigned()), worded(Total()), TotalSigned()]
+
+# Tags to which 17 applies by c, or by c and a tally.
+COUNT_FAULTS = {
+    Add: [tags for tags in tag_pairs() if exceeds(summed(*map(carried_of, tags)))],
+    Mark: [[x] for x in BAD_TAGS],
+    Extract: Extract.bad_tags,
+}
+
 
 def cases(call):
     if isinstance(call, Dimension):
@@ -1242,6 +1619,7 @@ def cases(call):
         return
     if isinstance(call, TagSum):
         yield from (call.make(x, y) for x in TALLIES for y in TALLIES)
+        yield from (call.make(x, y) for x, y in tag_pairs())
         return
     if isinstance(call, Mark):
         yield from marks()
@@ -1256,6 +1634,16 @@ def cases(call):
     if call in WORDED_CALLS:
         yield from halves(call)
         yield from error_pairs(call)
+
+
+def tag_cases(call):
+    """Those of T-02, after all that stood before."""
+    if isinstance(call, Mark):
+        yield from count_marks()
+    if isinstance(call, (Add, Extract)):
+        yield from given_tags(call)
+    if type(call) in COUNT_FAULTS:
+        yield from tag_refusals(call, COUNT_FAULTS[type(call)])
 
 
 def check_definitions():
@@ -1276,9 +1664,13 @@ def check_definitions():
 def main():
     check_definitions()
     longest = list(long_cases())
+    asked = [(call, [*cases(call), *(k for kind, k in longest if kind is type(call)), *tag_cases(call)]) for call in CALLS + WORDED_CALLS]
+    asked.append((Saved(), [Saved().tagged(Case(None, 1), x) for x in tags_of_each()]))
+    added = totals()
+    check_totals(added)
     records = []
-    for call in CALLS + WORDED_CALLS:
-        made = [record(call, k) for k in (*cases(call), *(k for kind, k in longest if kind is type(call)))]
+    for call, given in asked + added:
+        made = [record(call, k) for k in given]
         size, refusals = sum(map(len, made)), sum(r[HEAD_REFUSAL] != 0 for r in made)
         print(f"kind {call.kind} ({call.name}): {len(made)}, refused {refusals}, {size} bytes")
         records += made

@@ -1,4 +1,4 @@
-"""Test vectors for key switching, computed from document 01, with errors of either form (T-01).
+"""Test vectors for key switching, computed from document 01, with errors of either form (T-01) and c, which a switch keeps (T-02).
 
     python3 scripts/switch_vectors.py          write the file
     python3 scripts/switch_vectors.py --check  compare with the stored file
@@ -8,15 +8,18 @@ are left open. The class of each call says what it takes from a .. e, value, t a
 
 How document 01 is read, where it leaves a choice: the lowest number that applies is the answer, over the whole call;
 9 and 10 speak of what is read, 11 of what is written, 12 of what is lent for randomness. Base log and dimensions are judged
-by their kinds, and 1 to 6 stand before all the others, so this is their order too.
+by their kinds, and 1 to 6 stand before all the others, so this is their order too. A batch is lent one tag for each ciphertext of its
+input, and another number of them is 12; a c above 65,536 and a tally above 2^32 are 17.
 """
 
 import sys
+from copy import copy
 from dataclasses import dataclass, replace
 
 sys.dont_write_bytecode = True  # importing must leave no file in the repository
 
 import lwe_vectors
+from lwe_vectors import BAD_TAGS, FRESH, GIVEN, KEPT, KEPT_TAGS, Tag, Tagged, drawn_tags, kept
 from lwe_vectors import HALVES, HEAD, HIGHEST, LIMIT, LOWEST, WORD_MAX, about_half, encrypted, narrowed, other_lengths, outside
 from lwe_vectors import phase_of, record, replaced, rows_of, with_word, worded, words_fail, words_not_below_q, written
 from scheme01 import Basis, Draw, nearest, value_bits, write_or_check
@@ -197,27 +200,33 @@ class GenerateSigned(Generate):
     fields = {**Generate.fields, 9: ("d", "c"), 14: ("d", "c", "b")}
 
 
-class Switch(Call):
-    """key_switch_to: key a, ciphertext b, ciphertext in the buffer."""
+class Switch(Tagged, Call):
+    """key_switch_to: key a, ciphertext b with a tag, ciphertext in the buffer."""
 
     kind, name = 30, "switch"
     fields = {9: ("a",), 10: ("b",), 11: ("out",), 14: ("a", "b")}
+    bad_tags = [[x] for x in BAD_TAGS]
 
     def own_rows(self, k):
         yield 9, len(k.a) != k.n * k.L * (k.m + 1)
         yield 10, len(k.b) != k.n + 1
         yield 11, len(k.out) != k.m + 1
         yield 14, words_fail(k.q, k.a + k.b)
+        yield from self.tag_rows(k)
+
+    def afterwards(self, given):
+        return [*map(kept, given)]
 
     def make(self, p):
-        return p.base(a=p.key(), b=p.words(p.n + 1), out=p.room(p.m + 1))
+        k = p.base(a=p.key(), b=p.words(p.n + 1), out=p.room(p.m + 1))
+        return self.tagged(k, *drawn_tags(k, 1))
 
     def result(self, k):
         return 0, switched(k.basis(), k.n, k.m, k.a, k.b)
 
 
-class Batch(Call):
-    """key_switch_batch_to: key a, batch b, batch in the buffer."""
+class Batch(Tagged, Call):
+    """key_switch_batch_to: key a, batch b with `value` tags, batch in the buffer."""
 
     kind, name = 31, "batch"
     fields = {9: ("a",), 10: ("b",), 11: ("out",), 14: ("a", "b")}
@@ -226,14 +235,30 @@ class Batch(Call):
         yield 9, len(k.a) != k.n * k.L * (k.m + 1)
         yield 10, len(k.b) % (k.n + 1) != 0
         yield 11, len(k.out) != len(k.b) // (k.n + 1) * (k.m + 1)
+        yield 12, len(k.tags) != len(k.b) // (k.n + 1)
         yield 14, words_fail(k.q, k.a + k.b)
+        yield from self.tag_rows(k)
+
+    def afterwards(self, given):
+        return [*map(kept, given)]
+
+    def tagged(self, k, *tags):
+        return replace(super().tagged(k, *tags), value=len(tags))
+
+    def placed(self, k):
+        """A bad tag in the first place, in the middle and in the last."""
+        places = sorted({0, len(k.tags) // 2, len(k.tags) - 1}) if k.tags else []
+        return [[*k.tags[:i], bad, *k.tags[i + 1 :]] for bad in BAD_TAGS for i in places]
 
     def make(self, p, count=None):
         count = p.draw.choose([1, 2, 3]) if count is None else count
-        return p.base(a=p.key(), b=p.words(count * (p.n + 1)), out=p.room(count * (p.m + 1)))
+        k = p.base(a=p.key(), b=p.words(count * (p.n + 1)), out=p.room(count * (p.m + 1)))
+        return self.tagged(k, *drawn_tags(k, count))
 
     def faults(self, k, number, draw):
-        if number == 10:
+        if number == 12:
+            yield from (self.tagged(k, *tags) for tags in ([*k.tags, Tag(FRESH, 3)], k.tags[:-1], [], k.tags * 2) if len(tags) != len(k.tags))
+        elif number == 10:
             # one word too many, one too few; the output as for whole rows
             yield from (replace(k, b=k.b + [0] * x) for x in sorted({1, min(k.n, 5)}) if x % (k.n + 1))
             if len(k.b) > 1:
@@ -344,7 +369,7 @@ def stated_records():
     for b in ([9, 12], [10, 12]):
         k = Case(17, 1, m=1, base_log=2, levels=OPEN, a=[3, 5, 4, 13], b=b, out=[0, 0])
         assert Switch().result(k) == (0, [10, 11])
-        yield record(Switch(), k)
+        yield record(Switch(), Switch().tagged(k, Tag(FRESH, 1)))
     k = Case(17, 1, m=1, base_log=2, levels=OPEN, E=1, a=[1], c=[1], b=[3, 4], e=[0, 1], out=[0] * 4)
     assert Generate().result(k) == (0, [3, 5, 4, 13])
     yield record(Generate(), k)
@@ -419,6 +444,46 @@ def worded_refusals(draw):
                 yield record(call, draw.choose([x for x in only.faults(k, 15, draw) if {14, 15} <= call.applying(x)]))
 
 
+def tagged_records(draw):
+    """Each tag that is kept by a switch and by a batch, at any place of it; and every row's own c."""
+    for basis in ((None, 4, OPEN), (17, 2, OPEN)):
+        for x in KEPT_TAGS:
+            p = Pick(draw, *basis, *draw.choose(SIZES[:4]))
+            yield record(Switch(), Switch().tagged(Switch().make(p), x))
+            k = Batch().make(p, 4)
+            place = draw.below(4)
+            yield record(Batch(), Batch().tagged(k, *k.tags[:place], x, *k.tags[place + 1 :]))
+        for count in (2, 8, 9, 17):
+            k = Batch().make(Pick(draw, *basis, 2, 1), count)
+            yield record(Batch(), Batch().tagged(k, *(Tag(draw.choose([FRESH, GIVEN, KEPT]), i, 3 * i) for i in range(count))))
+
+
+def tag_faults(call, number):
+    """The call with faults of 12 and 17 in its tags alone."""
+    only = copy(call)
+    only.fields = {**call.fields, 17: ("tags",), **({12: ("tags",)} if number == 12 or isinstance(call, Batch) else {})}
+    return only
+
+
+def tag_refusals(draw):
+    """12 and 17 by tags, alone and with every other number; a refused call leaves its words and its tags."""
+    for basis in ((2**32 - 5, 4, OPEN), (65536, 4, 2), (2**31 - 1, 30, OPEN)):
+        for call, number, count in ((Switch(), 17, ()), (Batch(), 17, (3,)), (Batch(), 12, (3,)), (Batch(), 12, (0,))):
+            only = tag_faults(call, number)
+            k = only.make(Pick(draw, *basis, 2, 1), *count)
+            yield from (record(only, x) for x in only.faults(k, number, draw))
+            yield from (record(only, x) for x in tag_pairs(only, k, number, draw))
+
+
+def tag_pairs(call, k, number, draw):
+    """Two cases to which this number and another apply, for each other; an empty batch has no tag and no word of its input at fault."""
+    for other in call.numbers:
+        both = [x for y in call.faults(k, other, draw) for x in call.faults(y, number, draw) if {number, other} <= call.applying(x)]
+        assert both or other == number or not k.tags, (call.name, number, other)
+        if other != number and both:
+            yield from (draw.choose(both) for _ in range(3))
+
+
 def files():
     draw = Draw(20261116)
     out = list(stated_records())
@@ -426,6 +491,9 @@ def files():
         out.extend(records(draw))
     draw = Draw(20261127)
     for records in (worded_records, worded_refusals):
+        out.extend(records(draw))
+    draw = Draw(20261128)
+    for records in (tagged_records, tag_refusals):
         out.extend(records(draw))
     return {"crates/lwe_vectors/data/switch.bin": b"".join(out) + bytes(HEAD.size)}
 

@@ -48,6 +48,8 @@ pub(crate) enum Kind {
     Switch,
     SwitchBatch,
     Entry,
+    Saved,
+    Total(Form),
 }
 
 impl TryFrom<u32> for Kind {
@@ -88,6 +90,9 @@ impl TryFrom<u32> for Kind {
             30 => Kind::Switch,
             31 => Kind::SwitchBatch,
             32 => Kind::Entry,
+            33 => Kind::Saved,
+            34 => Kind::Total(Form::Encoded),
+            35 => Kind::Total(Form::Signed),
             other => return Err(other),
         })
     }

@@ -9,6 +9,8 @@ mod record;
 mod said;
 mod single;
 mod switch;
+mod tags;
+mod total;
 
 use kind::Kind;
 use record::{Head, Record};
@@ -48,6 +50,8 @@ fn call(kind: Kind, r: &Record, out: &mut [u32]) -> Said {
         Kind::Switch => switch::single(r, out),
         Kind::SwitchBatch => switch::batch(r, out),
         Kind::Entry => switch::entry(r, out),
+        Kind::Saved => lattice::saved(r),
+        Kind::Total(form) => total::total(r, form, out),
     }
 }
 

@@ -3,7 +3,6 @@
 use crate::record::Record;
 use crate::said;
 use crate::said::Said;
-use primus_lattice::LweTag;
 
 // Stays: a function for each call, here and in single and lattice: one for two would be handed the call, whose type, parameters, runs of
 // words and the output, is longer than what it saves.
@@ -11,7 +10,7 @@ pub(crate) fn encrypt_encoded(r: &Record, out: &mut [u32]) -> Said {
     let params = r.head.encryption_parameters();
     let errors = r.e.lent();
     let answer = primus_lwe_packed::encrypt_encoded_packed(params, &r.a, &r.b, errors, &r.c, out);
-    said::written(answer, LweTag::none())
+    said::written(answer, said::untallied())
 }
 
 pub(crate) fn encrypt_messages(r: &Record, out: &mut [u32]) -> Said {
@@ -21,7 +20,7 @@ pub(crate) fn encrypt_messages(r: &Record, out: &mut [u32]) -> Said {
     let answer = primus_lwe_packed::encrypt_message_packed(
         params, embedding, &r.a, &r.b, errors, &r.c, out,
     );
-    said::written(answer, LweTag::none())
+    said::written(answer, said::untallied())
 }
 
 pub(crate) fn encrypt_batch(r: &Record, out: &mut [u32]) -> Said {

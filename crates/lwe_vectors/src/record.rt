@@ -1,4 +1,5 @@
 // A record: the head, and the words that follow it.
+use crate::tags;
 use lwe_errors::LweErrorsRef;
 use lwe_parameters::{
     LweDecryptionParameters, LweEncryptionParameters, LweParameters, LwePhaseParameters,
@@ -78,6 +79,19 @@ impl Errors {
             Errors::Signed(numbers) => LweErrorsRef::Signed(numbers),
         }
     }
+
+    // The error at a place, alone.
+    pub(crate) fn lent_at(&self, i: usize) -> LweErrorsRef<'_> {
+        match self {
+            Errors::Encoded(words) => LweErrorsRef::Encoded(tags::part(words, i, 1)),
+            Errors::Signed(numbers) => LweErrorsRef::Signed(one(numbers, i)),
+        }
+    }
+}
+
+// The number at a place, alone; none past the end.
+fn one(numbers: &[i32], i: usize) -> &[i32] {
+    numbers.get(i..i.wrapping_add(1)).unwrap_or(&[])
 }
 
 // What a call is lent, and its buffer before and after it.

@@ -1,6 +1,7 @@
 // What a call said: its answer, or 0, or its refusal; none where what it wrote has another tag than it must have, or where a
 // part is not as it must be. That equals no record.
 use crate::record::Head;
+use crate::tags::Carried;
 use check_order::Refusal;
 use primus_lattice::LweTag;
 
@@ -25,15 +26,25 @@ pub(crate) fn holds(answer: Result<bool, Refusal>) -> Said {
     Some(answer.map(|b| u32::from(b)))
 }
 
-// A call that writes ciphertexts, all with this tag.
-pub(crate) fn written(answer: Result<LweTag, Refusal>, expected: LweTag) -> Said {
+// A call that writes ciphertexts, and whose tag must say this.
+pub(crate) fn written(answer: Result<LweTag, Refusal>, expected: Carried) -> Said {
     match answer {
-        Ok(tag) => (tag == expected).then_some(Ok(0)),
+        Ok(tag) => (Carried::from(tag) == expected).then_some(Ok(0)),
         Err(refusal) => Some(Err(refusal)),
     }
 }
 
-// A fresh ciphertext under a secret key has tally E; a public-key, packed or switched one has none.
-pub(crate) fn fresh(head: Head) -> LweTag {
-    LweTag::with_tally(u64::from(head.error_limit))
+// A fresh ciphertext under a secret key has tally E, and a public-key or packed one none; c is 1.
+pub(crate) fn fresh(head: Head) -> Carried {
+    Carried {
+        tally: Some(u64::from(head.error_limit)),
+        count: 1,
+    }
+}
+
+pub(crate) fn untallied() -> Carried {
+    Carried {
+        tally: None,
+        count: 1,
+    }
 }

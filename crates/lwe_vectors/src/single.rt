@@ -4,7 +4,6 @@ use crate::kind::Form;
 use crate::record::Record;
 use crate::said;
 use crate::said::Said;
-use primus_lattice::LweTag;
 use primus_lwe_public_key::LwePublicKey;
 
 pub(crate) fn encrypt_encoded(r: &Record, form: Form, out: &mut [u32]) -> Said {
@@ -43,7 +42,7 @@ pub(crate) fn public_encoded(r: &Record, out: &mut [u32]) -> Said {
     let h = r.head;
     let params = h.encryption_parameters();
     let answer = LwePublicKey::encrypt_encoded_to(params, &r.a, r.e.lent(), &r.d, h.value, out);
-    said::written(answer, LweTag::none())
+    said::written(answer, said::untallied())
 }
 
 pub(crate) fn public_message(r: &Record, out: &mut [u32]) -> Said {
@@ -54,5 +53,5 @@ pub(crate) fn public_message(r: &Record, out: &mut [u32]) -> Said {
     let answer = LwePublicKey::encrypt_message_to(
         params, embedding, &r.a, errors, &r.d, h.value, out,
     );
-    said::written(answer, LweTag::none())
+    said::written(answer, said::untallied())
 }

@@ -1,8 +1,8 @@
 // Key switching. The basis is judged before the call, the dimensions by it.
 use crate::kind::Form;
 use crate::record::{Head, Record};
-use crate::said;
 use crate::said::Said;
+use crate::{said, tags};
 use check_order::Refusal;
 use key_switch::{key_switch_batch_to, key_switch_to};
 use key_switch_key::LweKeySwitchingKey;
@@ -17,6 +17,9 @@ const FULL: u32 = 0xffff_ffff;
 // The answer of a record whose entry is not there.
 // Stays: no Option: what a call answers is one number in a record, and this is it where there is no entry.
 const MISSING: u32 = 0xffff_ffff;
+
+// The most tags of a batch.
+const ROWS: usize = 64;
 
 fn levels(n: u32) -> Option<DecompositionLevelCount> {
     (n != FULL).then_some(DecompositionLevelCount::new(n as usize))
@@ -72,20 +75,27 @@ pub(crate) fn key(r: &Record, form: Form, out: &mut [u32]) -> Said {
 
 // A switch: key a, input b.
 fn switched(r: &Record, out: &mut [u32]) -> Result<LweTag, Refusal> {
-    key_switch_to(parameters_of(r.head)?, &r.a, &r.b, out)
+    key_switch_to(parameters_of(r.head)?, &r.a, &r.b, tags::lent(&r.c, 0), out)
 }
 
 pub(crate) fn single(r: &Record, out: &mut [u32]) -> Said {
-    said::written(switched(r, out), LweTag::none())
+    said::written(switched(r, out), tags::expected(&r.c, 1, 0))
 }
 
 // Stays beside `switched` and `single`: another call of the library, as in packed.
-fn switched_batch(r: &Record, out: &mut [u32]) -> Result<LweTag, Refusal> {
-    key_switch_batch_to(parameters_of(r.head)?, &r.a, &r.b, out)
+fn switched_batch(r: &Record, tags: &mut [LweTag], out: &mut [u32]) -> Result<(), Refusal> {
+    key_switch_batch_to(parameters_of(r.head)?, &r.a, &r.b, tags, out)
 }
 
 pub(crate) fn batch(r: &Record, out: &mut [u32]) -> Said {
-    said::written(switched_batch(r, out), LweTag::none())
+    let mut room = [LweTag::untallied(); ROWS];
+    let lent = tags::lend(r, &mut room);
+    let answer = switched_batch(r, lent, out);
+    if tags::left(r, lent) {
+        said::done(answer)
+    } else {
+        None
+    }
 }
 
 // A place goes with a part as long as the buffer, which is copied there; any other answer goes with an empty part.

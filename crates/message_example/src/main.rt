@@ -21,12 +21,12 @@ fn encrypt(params: LweParameters, message: u32, out: &mut [u32]) -> Result<LweTa
     encrypt_message_to(params, embedding, key, &mask, errors, message, out)
 }
 
-// What was written has a tally, E; a refused call gives none.
-// Stays: a refusal's number, no Display: the program's stdout, which stays, has no meaning beside it.
+// What was written has a tally, E, and is one encryption; a refused call gives no tag.
+// Stays: a refusal's number, no Display: the program's stdout has no meaning beside it.
 fn tell(rt: &impl Print, answer: Result<LweTag, Refusal>) -> io::Result<()> {
-    match answer.map(|tag| tag.tally()) {
-        Ok(Some(tally)) => println!(rt; "tally {tally}"),
-        Ok(None) => println!(rt; "no tally"),
+    match answer.map(|tag| (tag.tally(), tag.count())) {
+        Ok((Some(tally), count)) => println!(rt; "tally {tally}, c {count}"),
+        Ok((None, count)) => println!(rt; "no tally, c {count}"),
         Err(refusal) => println!(rt; "refused {}", u32::from(refusal)),
     }
 }
