@@ -231,9 +231,10 @@ class Cases:
         b = self.box().change("shop_1", encryptions(0, 0)).change("shop_2", encryptions(0, 0)).change("shop_8", encryptions(0, 0))
         told = ["  casting 1: tally 9, c 0, marked good", "  casting 2: tally 9, c 3, marked good"]
         self.case("c = 0", b, told, three)
-        # q is 2^32 − 5: with t = 1,000,003 some 4,277 roundings are as much as the tally of 9 leaves, 2t × 9 + c × t < q
+        # q is 2^32 − 5: with t = 1,000,003 a tally of 9 leaves room for 4,276 roundings, 2t × 9 + c × t < q
         money, total = box(CENTS, MONEY), [x % CENTS for x in sums(["shop_1", "shop_2", "shop_8"], MONEY)]
         most = (BOX_MODULUS - 1 - 2 * CENTS * 9) // CENTS
+        assert most == 4276
         for c, mark in ((most, "marked good"), (most + 1, "not marked good")):
             b = Box(self.program, money, str(CENTS)).change("shop_8", encryptions(0, c - 2))
             self.case(f"{c} roundings", b, [f"  casting 1: tally 9, c {c}, {mark}", "  casting 2: tally 9, c 3, marked good"], total)
