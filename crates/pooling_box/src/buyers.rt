@@ -11,10 +11,11 @@ use saved_head::{Head, Kind};
 use std::rt::Files;
 
 const MARKS: &str = "\
-a total that is marked good above opens to the sum, modulo t, of what the shops
-encrypted, whatever was rounded; a switched ciphertext has no tally, so the opened
-total is never marked good itself: it rests on the marks above, on the errors and the
-numbers of encryptions that the shops declare, and on the bound of the switching error";
+a total that is marked good above opens to the sum, modulo t, of what the
+shops encrypted, whatever was rounded; a switched ciphertext has no tally, so
+the opened total is never marked good itself: it rests on the marks above, on
+the errors and numbers of encryptions that the shops declare, and on the bound
+of the switching error";
 
 fn print_totals(rt: &impl Print, counts: [u32; PLACES]) {
     let _ = println!(rt; "the buyers open it with the group's secret:");
