@@ -1388,26 +1388,37 @@ def tag_pairs():
             yield [Tag(KEPT, 2**40, c), others]
 
 
-def count_marks():
-    """2t x tally + c x t about q, and where 32 or 64 bits are too few for it."""
-    for t, tally, c in (
-        (3, 0, 6), (3, 0, 3), (2, 0, 2), (2, 1, 0), (3, 1, 2), (5, 0, 7), (5, 9, 0), (16, 1000, 65536), (255, 7, 300), (2, 0, 65536),
-        (65535, 0, 65536), (65536, 0, 65535), (65536, 0, 65536), (65536, 32767, 2), (65536, 32768, 0), (65537, 32767, 1),
-        (CENTS, 2000, 294), (CENTS, 0, 4294), (2**31 - 1, 0, 2), (2**31, 0, 2), (2**31, 1, 0), (2**30, 1, 2), (2**30, 0, 4), (2**30, 2, 0),
-    ):
+# t, tally and c; 2t x tally + c x t is below 2^32 but for the pairs of numbers whose product 32 bits do not hold.
+ABOUT_EQUAL = [
+    (3, 0, 6), (3, 0, 3), (2, 0, 2), (2, 1, 0), (3, 1, 2), (5, 0, 7), (5, 9, 0), (16, 1000, 65536), (255, 7, 300), (2, 0, 65536),
+    (65535, 0, 65536), (65536, 0, 65535), (65536, 0, 65536), (65536, 32767, 2), (65536, 32768, 0), (65537, 32767, 1),
+    (CENTS, 2000, 294), (CENTS, 0, 4294), (2**31 - 1, 0, 2), (2**31, 0, 2), (2**31, 1, 0), (2**30, 1, 2), (2**30, 0, 4), (2**30, 2, 0),
+]
+
+
+def equal_marks():
+    """q next to 2t x tally + c x t and the same, and native; c and one beside it."""
+    for t, tally, c in ABOUT_EQUAL:
         equal = 2 * t * tally + c * t
         moduli = [None if q == 2**32 else q for q in (equal - 1, equal, equal + 1, 2**32) if t < q <= 2**32]
         for modulus in moduli:
-            for d in sorted({max(c - 1, 0), c, c + 1}):
-                yield Case(modulus, 1, t=t, tags=[Tag(GIVEN, tally, d)])
-    for c in (0, 1, 3, 4, 6):
-        yield Case(10, 1, t=3, tags=[Tag(GIVEN, 0, c)])
+            yield from (Case(modulus, 1, t=t, tags=[Tag(GIVEN, tally, d)]) for d in (abs(c - 1), c, c + 1))
+
+
+def wide_marks():
+    """Where 32 or 64 bits are too few."""
+    tallies, counts = (0, 1, 2**30 - 1, 2**30, 2**31, 2**32, 2**32 + 1, NO_TALLY), (0, 1, 2, 65535, 65536, 65537, WORD_MAX)
     for modulus in (None, 2**32 - 1):
         for t in (2, 3, 65535, 65536, 65537, 2**31, 2**32 - 2, 2**32 - 1):
-            for tally in (0, 1, 2**30 - 1, 2**30, 2**31, 2**32, 2**32 + 1, NO_TALLY):
-                yield from (Case(modulus, 1, t=t, tags=[Tag(GIVEN, tally, c)]) for c in (0, 1, 2, 65535, 65536, 65537, WORD_MAX))
-    for x in KEPT_TAGS:
-        yield from (Case(modulus, 1, t=2, tags=[x]) for modulus in (5, 2**31, None))
+            yield from (Case(modulus, 1, t=t, tags=[Tag(GIVEN, tally, c)]) for tally in tallies for c in counts)
+
+
+def count_marks():
+    """Marks with a c that is not 1: of q 10 and t 3, about q, where words are too small, and of any source."""
+    yield from (Case(10, 1, t=3, tags=[Tag(GIVEN, 0, c)]) for c in (0, 1, 3, 4, 6))
+    yield from equal_marks()
+    yield from wide_marks()
+    yield from (Case(modulus, 1, t=2, tags=[x]) for x in KEPT_TAGS for modulus in (5, 2**31, None))
 
 
 def given_tags(call):
@@ -1483,13 +1494,18 @@ def rounding(q, t, message, centered):
 
 
 def worst(draw, q, t):
-    """The messages and embeddings that are rounded down and up the most."""
+    """The choices of a message and an embedding that are rounded down the most, and those that are rounded up the most."""
     messages = range(t) if t <= 300 else {0, t - 1, t // 2, *(draw.below(t) for _ in range(20))}
     if t > 300 and gcd(q, t) == 1:
         # m x q is about half of t, from below or above, modulo t
         messages |= {half * pow(q, -1, t) % t for half in (t // 2, -(t // 2), (t - 1) // 2, -((t - 1) // 2))}
-    choices = sorted((rounding(q, t, m, centered), m, centered) for m in messages for centered in (False, True))
-    return choices[0], choices[-1]
+    rounded = {(m, centered): rounding(q, t, m, centered) for m in sorted(messages) for centered in (False, True)}
+    return [[x for x, r in rounded.items() if r == end] for end in (min(rounded.values()), max(rounded.values()))]
+
+
+def single(draw, choices, E=0, error=0):
+    message, centered = draw.choose(choices)
+    return Single(E, centered, message, error)
 
 
 def trees(draw, count):
@@ -1497,7 +1513,9 @@ def trees(draw, count):
 
 
 # E of each encryption of a total.
-LIMITS = [[0], [1], [0, 0], [0, 0, 0], [1, 0, 2], [3] * 5, [0] * 7, [2, 2, 0, 1], [0] * 16, [5, 0, 0, 7, 1, 1], [100, 0, 4096], [LIMIT, LIMIT]]
+LIMITS = [
+    [0], [1], [0, 0], [0, 0, 0], [1, 0, 2], [3] * 5, [0] * 7, [2, 2, 0, 1], [0] * 16, [5, 0, 0, 7, 1, 1], [100, 0, 4096], [LIMIT, LIMIT],
+]
 TIGHT_MODULI = [10, 16, 17, 33, 97, 100, 257, 65536, 65537, 2**31 - 1, 2**31, 2**32 - 5, 2**32 - 1, None]
 
 
@@ -1508,18 +1526,17 @@ def tight_totals(draw):
         q = Case(modulus, 1).q
         for limits in LIMITS:
             most = (q - 1) // (2 * sum(limits) + len(limits))
-            for t in {most, most - 1}:
+            for t in (most, most - 1):
                 if 2 <= t < q and max(limits) < q // 2:
                     yield from extreme_totals(draw, modulus, t, limits)
 
 
 def extreme_totals(draw, modulus, t, limits):
-    q = Case(modulus, 1).q
-    for sign, (_, message, centered) in zip((-1, 1), worst(draw, q, t)):
-        singles = [Single(E, centered, message, sign * E) for E in limits]
-        for count in (len(singles), len(singles) + 1):
+    for sign, choices in zip((-1, 1), worst(draw, Case(modulus, 1).q, t)):
+        singles = [single(draw, choices, E, sign * E) for E in (*limits, 0)]
+        for count in (len(limits), len(limits) + 1):
             p = Pick(draw, modulus, 1 + draw.below(3), t=t)
-            yield p, (singles + [Single(0, centered, message, 0)])[:count], trees(draw, count)
+            yield p, singles[:count], trees(draw, count)
 
 
 def mixed_totals(draw):
@@ -1538,17 +1555,17 @@ def mixed_totals(draw):
 def repeated_totals(draw):
     """Many encryptions, up to 65,536, by adding sums to each other."""
     for modulus, t, x, y in (
-        (None, 65535, 40503, 25033), (None, 65535, 1, 2), (2**32 - 5, 65534, 40503, 25033), (None, 65536, 40503, 25033), (None, 65521, 25, 16),
-        (2**31 - 1, 46337, 28657, 17711), (2**31 - 1, 46368, 28657, 17711), (None, 7, 40503, 25033),
+        (None, 65535, 40503, 25033), (None, 65535, 1, 2), (2**32 - 5, 65534, 40503, 25033), (None, 65536, 40503, 25033),
+        (None, 65521, 25, 16), (2**31 - 1, 46337, 28657, 17711), (2**31 - 1, 46368, 28657, 17711), (None, 7, 40503, 25033),
     ):
         p = Pick(draw, modulus, 2, t=t)
-        for _, message, centered in worst(draw, p.q, t):
-            yield p, [Single(0, centered, message, 0)] * 2, repeated(x, y)
-            yield p, [Single(0, centered, message, 0), Single(1, False, 1, -1)], repeated(x, y)
+        for choices in worst(draw, p.q, t):
+            yield p, [single(draw, choices), single(draw, choices)], repeated(x, y)
+            yield p, [single(draw, choices), Single(1, False, 1, -1)], repeated(x, y)
 
 
 def ten():
-    """Document 02's own total: q 10, t 3, six encryptions of 1. Each is 3 of 10, so six are 8, which opens to 2; of three, 9 opens to 0."""
+    """By hand: q 10, t 3, encryptions of 1, each a 3. Six are 18, which is 8 and opens to 2; three are 9, which opens to 0."""
     p = Pick(Draw(1300), 10, 1, t=3)
     for count, marked, opened in ((6, False, 2), (3, True, 0)):
         for centered in (False, True):
@@ -1571,12 +1588,12 @@ def totals():
 
 
 def check_totals(made):
-    """Some totals are marked good just below q, and some that are not open wrongly."""
+    """Many totals are marked good within t of q, and many that are not open wrongly."""
     cases = [(call, k) for call, cases in made for k in cases]
-    tight = [k for _, k in cases if k.c[-1] and k.q - k.t < 2 * k.t * k.carried[0].tally + k.carried[0].count * k.t]
+    tight = [k for _, k in cases if k.c[-1] and not good(k.q - k.t, k.t, k.carried[0])]
     wrong = [k for call, k in cases if call.result(k)[0] != opened_to(k)]
     assert len(tight) > 100 and len(wrong) > 100 and not any(k.c[-1] for k in wrong)
-    print(f"totals: {len(cases)}, good {sum(k.c[-1] for _, k in cases)}, of which within t of q {len(tight)}; not good and open wrongly {len(wrong)}")
+    print(f"totals: {len(cases)}, marked good within t of q {len(tight)}, not good and open wrongly {len(wrong)}")
 
 
 def opened_to(k):
@@ -1666,10 +1683,10 @@ def main():
     longest = list(long_cases())
     asked = [(call, [*cases(call), *(k for kind, k in longest if kind is type(call)), *tag_cases(call)]) for call in CALLS + WORDED_CALLS]
     asked.append((Saved(), [Saved().tagged(Case(None, 1), x) for x in tags_of_each()]))
-    added = totals()
-    check_totals(added)
+    asked += totals()
+    check_totals(asked[-4:])
     records = []
-    for call, given in asked + added:
+    for call, given in asked:
         made = [record(call, k) for k in given]
         size, refusals = sum(map(len, made)), sum(r[HEAD_REFUSAL] != 0 for r in made)
         print(f"kind {call.kind} ({call.name}): {len(made)}, refused {refusals}, {size} bytes")
