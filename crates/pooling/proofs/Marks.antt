@@ -3,27 +3,17 @@
 --     begun_carried    what the first file's carries
 --     added_carried    the sum of two
 -- Assumes nothing.
-use Rattle.std.proofs.Common.{◌≡◌, refl, sym, ap, ◌∙◌, false, ◌||◌, List, ℕ, ◌^◌, ◌≤◌, ◌<◌, length, arith}
-use borrow.Author.Tests.{ne_eqb, ltb-false}
-use Rattle.scheme.specs.Tally.{Tally, Absent, Present, Carried, add_carried, tally_fails, count_fails, carried_fails}
+use Rattle.std.proofs.Common.{◌≡◌, sym, ap, ◌∙◌, false, ◌||◌, List, ℕ, ◌<◌, length}
+use Rattle.scheme.specs.Tally.{add_carried, carried_fails}
 use Rattle.scheme.proofs.Order.{neither}
 use Rattle.scheme.proofs.Lists.{tabulate_at}
 use Rattle.lwe_tag.specs.declared.LweTag.{LweTag}
-use Rattle.lwe_tag.specs.Answers.{cap, no_tally, meant_tally, held_tally, tally_for, number_of_tally, carried_of, tag_of, tag_fails, untallied}
+use Rattle.lwe_tag.specs.Answers.{cap, carried_of, tag_fails, untallied}
+use Rattle.lwe_tag.proofs.Laws.{tag_back}
 use Rattle.saved.specs.Layout.{saved_carried, saved_tag}
 use Rattle.saved.proofs.Tags.{saved_fails, saved_is}
 use Rattle.pooling_rows.specs.Rows.{place_tag, place_sum, tags_fail, saved_fail, add_tags, saved_tags}
 use Rattle.pooling.proofs.Laws.{place_ok, saved_ok}
-
--- a tally that is not refused is far below the number that stands for none, so a tag keeps what it is made of
-tally_back : (t : Tally) → tally_fails cap t ≡ false → meant_tally (tally_for (number_of_tally (held_tally t))) ≡ t
-tally_back Absent h = refl
-tally_back (Present a) h = let l : a ≤ 2 ^ 32 = ltb-false cap a h in rw (ne_eqb a no_tally (λ e. omega arith))
-
-back : (g : Carried) → carried_fails cap g ≡ false → carried_of (tag_of g) ≡ g
-back g h =
-    ap (λ (t : Tally). let k : Carried = record { tally = t; count = g.count } in k)
-    (tally_back g.tally (neither (count_fails g.count) (tally_fails cap g.tally) h).1)
 
 -- what the file says, where 17 does not apply to it
 held : (s : List ℕ) (i : ℕ) → tag_fails (saved_tag s i) ≡ false → carried_of (saved_tag s i) ≡ saved_carried s i
@@ -41,5 +31,5 @@ added_carried ts s i e h =
     let two = (neither (tag_fails x) (carried_fails cap sum || tag_fails y) (place_ok ts s i e h)).1 in
     let one = neither (tag_fails y) (carried_fails cap sum) two in
     ap carried_of (tabulate_at untallied (length ts) (place_sum ts s) i h)
-    ∙ back sum one.1
+    ∙ tag_back sum one.1
     ∙ ap (add_carried (carried_of x)) (held s i one.0)

@@ -1,3 +1,4 @@
 pub mod Retired
 pub mod Widened
 pub mod Signed
+pub mod Counted

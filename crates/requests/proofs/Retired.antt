@@ -12,6 +12,7 @@ use Rattle.scheme.proofs.Retired as R
 use Rattle.primus_reduce.specs.Ring.{meant}
 use Rattle.primus_decompose.specs.declared.primitive.basis.ApproxSignedBasis.{ApproxSignedBasis}
 use Rattle.primus_decompose.specs.Answers.{rows, word_rows, digit_rows, slice_rows}
+use Rattle.lwe_tag.specs.declared.LweTag.{LweTag}
 use Rattle.key_switch_parameters.specs.declared.LweKeySwitchingParameters.{LweKeySwitchingParameters}
 use Rattle.key_switch_parameters.specs.Answers.{parameter_rows}
 use Rattle.key_switch_entries.specs.Answers.{generate_rows}
@@ -64,8 +65,8 @@ module _ (P : LweKeySwitchingParameters) (f : Word P.basis) where
   generate_alike E key s' masks errors room = alike P.basis f _ refl
 
   -- `key_switch_to`, `key_switch_batch_to`
-  pub switch_alike : (key input : List ℕ) (room : ℕ) → Alike P.basis (switch_rows P key input room)
-  switch_alike key input room = alike P.basis f _ refl
+  pub switch_alike : (key input : List ℕ) (g : LweTag) (room : ℕ) → Alike P.basis (switch_rows P key input g room)
+  switch_alike key input g room = alike P.basis f _ refl
 
-  pub batch_alike : (key input : List ℕ) (room : ℕ) → Alike P.basis (batch_rows P key input room)
-  batch_alike key input room = alike P.basis f _ refl
+  pub batch_alike : (key input : List ℕ) (gs : List LweTag) (room : ℕ) → Alike P.basis (batch_rows P key input gs room)
+  batch_alike key input gs room = alike P.basis f _ refl

@@ -35,7 +35,7 @@ use Rattle.primus_encoding.specs.declared.rounded.RoundedCodec.{RoundedCodec}
 use Rattle.primus_encoding.specs.Answers.{codec_answer, encode_rows, encode_answer, decode_rows, decode_answer, add_rows, add_word, add_answer}
 use Rattle.primus_encoding.specs.Answers.{encode_slice_rows, decode_slice_rows, add_slice_rows, EncodesSlice, DecodesSlice, AddsEncodings}
 use Rattle.lwe_tag.specs.declared.LweTag.{LweTag}
-use Rattle.lwe_tag.specs.Answers.{WritesTagged, tally_of, mark_rows, mark_answer}
+use Rattle.lwe_tag.specs.Answers.{WritesTagged, carried_of, mark_rows, mark_answer}
 use Rattle.lwe_parameters.specs.declared.parameter.LweDecryptionParameters.{LweDecryptionParameters}
 use Rattle.lwe_parameters.specs.declared.parameter.LweParameters.{LweParameters}
 use Rattle.lwe_parameters.specs.Answers.{parameters_rows, parameters_answer}
@@ -49,7 +49,7 @@ use Rattle.primus_lwe_public_key.specs.Answers.{public_message_rows, EncryptsPub
 use Rattle.saved_head.specs.declared.head.Head.{Head}
 use Rattle.saved_head.specs.Head.{head_of}
 use Rattle.saved.specs.Layout.{file_words}
-use Rattle.pooling_rows.specs.Rows.{add_tallies, saved_tallies}
+use Rattle.pooling_rows.specs.Rows.{add_tags, saved_tags}
 use Rattle.pooling_refusals.specs.Rows.{begin_rows, total_rows, file_refusal}
 use Rattle.pooling.specs.Total.{BeginsSaved, AddsSaved}
 use Rattle.c_answers.specs.Service.{word_number, mark_number}
@@ -186,10 +186,10 @@ module _ (g : LweTag) (m : Modulus) (t : ℕ) where
   pub mark_widened : Widened t (mark_rows g m t)
   mark_widened = widened t _ refl
 
-  pub mark_alike : let was = answer_before t (mark_rows g m t) (good (size_of m) t (tally_of g)) in Unless t (code_of was) → mark_answer g m t ≡ was
+  pub mark_alike : let was = answer_before t (mark_rows g m t) (good (size_of m) t (carried_of g)) in Unless t (code_of was) → mark_answer g m t ≡ was
   mark_alike h = answer_same mark_widened _ h
 
-  pub marked_alike : let was = answer_before t (mark_rows g m t) (good (size_of m) t (tally_of g)) in
+  pub marked_alike : let was = answer_before t (mark_rows g m t) (good (size_of m) t (carried_of g)) in
       Unless t (code_of was) → mark_number (mark_answer g m t) ≡ mark_number was
   marked_alike h = ap mark_number (mark_alike h)
 
@@ -271,30 +271,30 @@ module _ (P : LweDecryptionParameters) where
 
 -- ---- a saved file, beginning a total and beside one: `begin_saved`, `add_saved`. 19 comes first, and is what it was
 
-module _ (p : LweDecryptionParameters) (s xs ts : List ℕ) where
+module _ (p : LweDecryptionParameters) (s xs : List ℕ) (ts : List LweTag) where
   pub begin_widened : (h : Head) → Widened p.plaintext_modulus (begin_rows p h s (length xs) (length ts))
   begin_widened h = widened _ _ refl
 
   pub total_widened : (h : Head) → Widened p.plaintext_modulus (total_rows p h s xs ts)
   total_widened h = widened _ _ refl
 
-  pub begin_alike : {r : ℕ} {words tallies : List ℕ} → BeginsSaved p s xs ts r words tallies
+  pub begin_alike : {r : ℕ} {words : List ℕ} {tags : List LweTag} → BeginsSaved p s xs ts r words tags
       → let was = file_refusal (with_limit p.plaintext_modulus (begin_rows p (head_of s) s (length xs) (length ts))) in Unless p.plaintext_modulus was
-      → (r ≡ was) × (words ≡ pick (eqb was 0) (file_words s (length xs)) xs) × (tallies ≡ pick (eqb was 0) (saved_tallies (length ts) s) ts)
+      → (r ≡ was) × (words ≡ pick (eqb was 0) (file_words s (length xs)) xs) × (tags ≡ pick (eqb was 0) (saved_tags (length ts) s) ts)
   begin_alike v h =
       let e = file_same (begin_widened (head_of s)) h in (
         v.answered ∙ e,
         v.begins ∙ ap (λ k. pick (eqb k 0) (file_words s (length xs)) xs) e,
-        v.tallied ∙ ap (λ k. pick (eqb k 0) (saved_tallies (length ts) s) ts) e,
+        v.tagged ∙ ap (λ k. pick (eqb k 0) (saved_tags (length ts) s) ts) e,
       )
 
-  pub total_alike : {r : ℕ} {words tallies : List ℕ} → AddsSaved p s xs ts r words tallies
+  pub total_alike : {r : ℕ} {words : List ℕ} {tags : List LweTag} → AddsSaved p s xs ts r words tags
       → let was = file_refusal (with_limit p.plaintext_modulus (total_rows p (head_of s) s xs ts)) in Unless p.plaintext_modulus was
       → (r ≡ was) × (words ≡ pick (eqb was 0) (add_words (size_of p.modulus) xs (file_words s (length xs))) xs)
-      × (tallies ≡ pick (eqb was 0) (add_tallies ts s) ts)
+      × (tags ≡ pick (eqb was 0) (add_tags ts s) ts)
   total_alike v h =
       let e = file_same (total_widened (head_of s)) h in (
         v.answered ∙ e,
         v.adds ∙ ap (λ k. pick (eqb k 0) (add_words (size_of p.modulus) xs (file_words s (length xs))) xs) e,
-        v.tallied ∙ ap (λ k. pick (eqb k 0) (add_tallies ts s) ts) e,
+        v.tagged ∙ ap (λ k. pick (eqb k 0) (add_tags ts s) ts) e,
       )
