@@ -9,7 +9,7 @@
 #include "calls.h"
 #include "measure.h"
 
-enum { RUNS = 60, ROWS = 64, N = 630, M = 630, BASE_LOG = 4 };
+enum { RUNS = 60, ROWS = MOST_ROWS, N = 630, M = 630, BASE_LOG = 4 };
 
 size_t run_before(enum which which, const struct job *j), run_now(enum which which, const struct job *j); /* run_call of each archive */
 

@@ -1,7 +1,31 @@
-/* Linked once with each of the two archives, so that both stand in one program. */
+/* Compiled and linked once with each of the two archives and its own header, so that both stand in one program. */
 #include "calls.h"
 
+#include <stdio.h>
+
 #include "saigagalena.h"
+
+/* Release 6 is the first whose tags have c, and whose batch of switches is lent them. */
+#if SAIGAGALENA_VERSION >= 6
+static saigagalena_tag tag_of_one(void)
+{
+    return saigagalena_saved_tag(1, 1);
+}
+
+static uint32_t switch_batch(const struct job *j)
+{
+    static saigagalena_tag tags[MOST_ROWS];
+
+    for (size_t i = 0; i < j->rows; i++)
+        tags[i] = tag_of_one();
+    return saigagalena_key_switch_batch(j->modulus, j->base_log, 0, j->n, j->m, j->key, j->key_len, j->ciphertexts,
+                                        j->rows * (j->n + 1), tags, j->rows, j->out, j->rows * (j->m + 1));
+}
+#else
+static saigagalena_tag tag_of_one(void)
+{
+    return saigagalena_saved_tag(1);
+}
 
 static uint32_t switch_batch(const struct job *j)
 {
@@ -9,11 +33,12 @@ static uint32_t switch_batch(const struct job *j)
                                         j->rows * (j->n + 1), j->out, j->rows * (j->m + 1))
         .refusal;
 }
+#endif
 
 /* Each row of `out` and the row of ciphertexts at its place. */
 static uint32_t add(const struct job *j)
 {
-    const saigagalena_tag tag = saigagalena_saved_tag(1);
+    const saigagalena_tag tag = tag_of_one();
     const size_t width = j->n + 1;
     uint32_t refusal = 0;
 
@@ -79,5 +104,9 @@ size_t run_call(enum which which, const struct job *j)
     const size_t words[CALLS] = {j->rows * (j->m + 1), j->rows * (j->n + 1), j->rows * (j->n + 1), j->rows * (j->n + 1),
                                  j->rows,              j->rows,              j->rows * j->n,       j->rows * j->n};
 
+    if (saigagalena_version() != SAIGAGALENA_VERSION || j->rows > MOST_ROWS) {
+        fprintf(stderr, "calls: the header is of release %d, its archive of %d\n", SAIGAGALENA_VERSION, (int)saigagalena_version());
+        return 0;
+    }
     return calls[which](j) == 0 ? words[which] : 0;
 }

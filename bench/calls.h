@@ -7,6 +7,8 @@
 
 enum which { SWITCH, ADD, ENCRYPT, ENCRYPT_SIGNED, OPEN, OPEN_SIGNED, ENCODE, DECODE, CALLS };
 
+enum { MOST_ROWS = 64 };
+
 struct job {
     uint32_t modulus, t, error_limit, base_log;
     size_t n, m, rows;

@@ -11,7 +11,7 @@ mod saigagalena;
 use ported::{
     ApproxSignedBasis, Barrett, KeySwitchingKey, LowBits, Native, Remainder, WideBarrett,
 };
-use saigagalena::saigagalena_key_switch_batch;
+use saigagalena::{Tag, saigagalena_key_switch_batch, saigagalena_uncounted_tag};
 use std::ffi::c_void;
 
 unsafe extern "C" {
@@ -111,6 +111,7 @@ struct Case {
     m: usize,
     key: Vec<u32>,
     input: Vec<u32>,
+    tags: Vec<Tag>,
     ours: Vec<u32>,
     rust: Vec<u32>,
 }
@@ -138,6 +139,8 @@ impl Case {
             m,
             key: fill(n * level_count * (m + 1)),
             input: fill(count * (n + 1)),
+            // SAFETY: nothing goes in, and a tag comes out.
+            tags: vec![unsafe { saigagalena_uncounted_tag() }; count],
             ours: vec![0xaaaa_aaaa; count * (m + 1)],
             rust: vec![0x5555_5555; count * (m + 1)],
         }
@@ -160,10 +163,11 @@ impl Case {
                 self.key.len(),
                 self.input.as_ptr(),
                 self.input.len(),
+                self.tags.as_mut_ptr(),
+                self.tags.len(),
                 self.ours.as_mut_ptr(),
                 self.ours.len(),
             )
-            .refusal
         }
     }
 

@@ -8,6 +8,8 @@
 
 enum { RUNS = 7, BASE_LOG = 4, BATCH = 64 };
 
+static saigagalena_tag tags[BATCH];
+
 struct job {
     uint32_t modulus;
     size_t n, m, levels;
@@ -17,9 +19,8 @@ struct job {
 
 static uint32_t whole(struct job *j)
 {
-    return saigagalena_key_switch_batch(j->modulus, BASE_LOG, 0, j->n, j->m, j->key, j->key_len, j->input, j->input_len, j->out,
-                                        j->out_len)
-        .refusal;
+    return saigagalena_key_switch_batch(j->modulus, BASE_LOG, 0, j->n, j->m, j->key, j->key_len, j->input, j->input_len, tags, BATCH,
+                                        j->out, j->out_len);
 }
 
 static uint32_t checks(struct job *j)
@@ -29,8 +30,7 @@ static uint32_t checks(struct job *j)
 
     *last = UINT32_MAX;
     uint32_t answer = saigagalena_key_switch_batch(j->modulus, BASE_LOG, 0, j->n, j->m, j->key, j->key_len, j->input, j->input_len,
-                                                   j->out, j->out_len - shorter)
-                          .refusal;
+                                                   tags, BATCH, j->out, j->out_len - shorter);
     *last = good;
     return answer;
 }
@@ -91,6 +91,8 @@ static void report(uint32_t modulus, size_t n, size_t m)
 int main(void)
 {
     static const uint32_t moduli[] = {0, 2147483629, 65536};
+    for (size_t i = 0; i < BATCH; i++)
+        tags[i] = saigagalena_uncounted_tag();
     puts("| modulus (0 native) | n / m | a batch of 64 | checks | digits | sums |\n|---|---|---|---|---|---|");
     for (size_t i = 0; i < sizeof moduli / sizeof *moduli; i++) {
         report(moduli[i], 630, 630);

@@ -14,10 +14,13 @@ plant() {
     sed -i "$3" "$room/c/$2"
     ! cmp -s "$room/c/$2" "tests/c/$2" || { echo "$1: the text to damage is gone"; exit 1; }
     for test in refusals fuzz; do
+        first=
+        [ "$test" = fuzz ] || first=first
         # shellcheck disable=SC2046 # every other file but the other main programs
         "$cc" -std=c11 -O1 -w -Iinclude "$room/c/$test.c" \
-            $(ls "$room"/c/*.c | grep -v -e refusals.c -e fuzz.c -e cases.c -e tags.c -e error_words.c -e divisions.c) "$archive" -o "$room/$test"
-        if "$room/$test" >"$room/out" 2>&1; then
+            $(ls "$room"/c/*.c | grep -v -e refusals.c -e fuzz.c -e cases.c -e tags.c -e marks.c -e error_words.c -e divisions.c) "$archive" -o "$room/$test"
+        # shellcheck disable=SC2086 # nothing, or one word
+        if "$room/$test" $first >"$room/out" 2>&1; then
             echo "$1: $test saw nothing"
             missed=1
         else
@@ -36,11 +39,45 @@ plant "11 is given before 10" model.c 's|            return number;|            
 plant "E = q is accepted" model.c 's|o->bound >= q_of|o->bound > q_of|'
 plant "2048 is refused" model.c 's|n > 2048|n >= 2048|'
 plant "a tally of 2^32 is refused" model.c 's|tally > two32|tally >= two32|'
-plant "a fresh tally is 1" results.c 's|return o->bound;|return 1;|'
-plant "a packed ciphertext has the tally E" model.c 's|packed_result, no_tally|packed_result, fresh_tally|'
-plant "a switched ciphertext has the tally E" model.c 's|switch_rows_result, no_tally|switch_rows_result, fresh_tally|'
-plant "a sum with none keeps the other tally" results.c 's/if (o->tally\[0\] == SAIGAGALENA_NO_TALLY || o/if (o/'
-plant "a refused call gives a tally" model.c 's|+ number, SAIGAGALENA_NO_TALLY}|+ number, 0}|'
+plant "a fresh tally is 1" results.c 's|{o->bound, 1}|{1, 1}|'
+plant "a packed ciphertext has the tally E" model.c 's|packed_result, untallied_tag|packed_result, fresh_tag|'
+plant "a sum with none keeps the other tally" results.c 's/if (x == SAIGAGALENA_NO_TALLY || y == /if (y == /'
+plant "a refused call gives a tally" model.c 's|{SAIGAGALENA_NO_TALLY, 1}};|{0, 1}};|'
+plant "a fresh c is 0" results.c 's|{o->bound, 1}|{o->bound, 0}|'
+plant "c of a batch is its number of rows" results.c 's|{o->bound, 1}|{o->bound, len(o, INPUT) > 1 ? (uint32_t)len(o, INPUT) : 1}|'
+plant "c of a packed ciphertext is its number of bodies" results.c \
+    '/^saigagalena_tag untallied_tag/,/^}/ s|, 1}|, len(o, MASK) > 0 \&\& len(o, INPUT) > 1 ? (uint32_t)len(o, INPUT) : 1}|'
+plant "c is not added" results.c 's|o->tag\[0\].count + o->tag\[1\].count|o->tag[0].count|'
+plant "c of a sum is that of y" results.c 's|o->tag\[0\].count + o->tag\[1\].count|o->tag[1].count|'
+plant "the mark leaves c out" results.c 's|2 \* t \* tally + c \* t <|2 * t * tally <|'
+plant "the mark counts one rounding" results.c 's|2 \* t \* tally + c \* t <|2 * t * tally + t <|'
+plant "the mark counts c without t" results.c 's|2 \* t \* tally + c \* t <|2 * t * tally + c <|'
+plant "the mark is good where both are equal" results.c 's|+ c \* t < q_of|+ c * t <= q_of|'
+plant "c of data saved without it is 0" results.c '/^saigagalena_tag uncounted_tag/,/^}/ s|, 1}|, 0}|'
+plant "a tally saved without c is kept" results.c '/^saigagalena_tag uncounted_tag/,/^}/ s|{SAIGAGALENA_NO_TALLY, 1}|{o->tag[0].tally, 1}|'
+plant "a c of 65536 is refused" model.c 's|return c > 65536;|return c >= 65536;|'
+plant "a c of 65537 is served" model.c 's|return c > 65536;|return c > 65537;|'
+plant "a c of 2^31 and more is served" model.c 's|return c > 65536;|return (int32_t)c > 65536;|'
+plant "a c of 0 is refused" model.c 's/return c > 65536;/return c == 0 || c > 65536;/'
+plant "a c that is given is not judged" model.c 's/ || count_fails(x.count);/;/'
+plant "c is judged beside a tally only" model.c 's/|| count_fails(x.count);/|| (x.tally != SAIGAGALENA_NO_TALLY \&\& count_fails(x.count));/'
+plant "c of a sum is not judged" model.c 's/ || count_fails((uint64_t)x.count + y.count);/;/'
+plant "c of a sum is judged where both have a tally" model.c \
+    's/|| count_fails((uint64_t)x.count + y.count);/|| (!none \&\& count_fails((uint64_t)x.count + y.count));/'
+plant "17 comes before 14" model.c 's|14, 15, 16, 17};|17, 14, 15, 16};|'
+plant "a switch forgets c" results.c 's|{SAIGAGALENA_NO_TALLY, o->tag\[0\].count}|{SAIGAGALENA_NO_TALLY, 1}|'
+plant "a switch keeps the tally" results.c 's|{SAIGAGALENA_NO_TALLY, o->tag\[0\].count}|{o->tag[0].tally, o->tag[0].count}|'
+plant "a batch forgets c" results.c 's|{SAIGAGALENA_NO_TALLY, tags\[i\].count}|{SAIGAGALENA_NO_TALLY, 1}|'
+plant "a batch keeps the tallies" results.c 's|{SAIGAGALENA_NO_TALLY, tags\[i\].count}|{tags[i].tally, tags[i].count}|'
+plant "a row of a batch has the tag of the row before" results.c 's|tags\[i\].count|tags[i == 0 ? 0 : i - 1].count|'
+plant "every row of a batch has the first tag" results.c 's|tags\[i\].count|tags[0].count|'
+plant "the last tag of a batch stays" model.c '/^struct answer model_answer/,/^}/ s|i < len(o, TAGS)|i + 1 < len(o, TAGS)|'
+plant "the last tag of a batch is not judged" model.c '/^static int tags_fail/,/^}/ s|i < len(o, TAGS)|i + 1 < len(o, TAGS)|'
+plant "c of a batch is not judged" model.c '/^static int tags_fail/,/^}/ s|tag_fails(\(.*\)\[i\]);|tally_fails((\1[i]).tally);|'
+plant "a refused batch has its tags written" model.c 's|^    if (refusal != 0)|    for (size_t i = 0; i < len(o, TAGS); i++) tags[i] = row_tag(o, i);\n&|'
+plant "another number of tags gets 10" model.c 's/{input_fails(call->input, o) ||/& differs(o, want, TAGS) ||/'
+plant "any number of tags is taken" model.c 's/|| differs(o, want, TAGS), 12}/, 12}/'
+plant "a tag too many is taken" model.c 's/|| differs(o, want, TAGS), 12}/|| len(o, TAGS) < want[TAGS], 12}/'
 plant "an opening judges E" model.c 's|{"decrypt_phase", MODULUS|{"decrypt_phase", BOUND \| MODULUS|'
 plant "the last word is not counted" results.c 's|a < b->q; a++|a + 1 < b->q; a++|'
 plant "words are counted without their dropped bits" results.c 's|counts\[0\] = UINT32_C(1) << b->d|counts[0] = 1|'

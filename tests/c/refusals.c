@@ -3,7 +3,7 @@
  * (the first in the order wins), and empty slices with null pointers. Each comparison is of the answer, of all buffers and of
  * what lies around them; where a number below 14, or 26, applies, the call is made again over pages that may not be
  * read.
- * scripts/c_test.sh builds and runs it.
+ * scripts/c_test.sh builds and runs it. With an argument it ends at the first difference.
  */
 #include <stdio.h>
 #include <stdlib.h>
@@ -25,12 +25,20 @@ struct seen {
 
 static struct draw generator = {20261116};
 static unsigned turn;
+static int ends_early;
+
+static void note(int right, struct seen *seen)
+{
+    seen->wrong += !right;
+    if (!right && ends_early)
+        exit(1);
+}
 
 static void try(const struct call *call, const struct operands *o, struct seen *seen)
 {
     const uint32_t applying = model_applying(call, o), first = model_refusal(call, o);
 
-    seen->wrong += !agrees(call, o, turn % PLACEMENTS, turn / PLACEMENTS % 2);
+    note(agrees(call, o, turn % PLACEMENTS, turn / PLACEMENTS % 2), seen);
     turn++;
     if (first == 0) {
         seen->accepted++;
@@ -38,7 +46,7 @@ static void try(const struct call *call, const struct operands *o, struct seen *
     }
     seen->refused++;
     if (first < FIRST_OF_VALUES || first == 26)
-        seen->wrong += !refuses_unread(call, o, first);
+        note(refuses_unread(call, o, first), seen);
     seen->first[first]++;
     seen->alone[first] += applying == UINT32_C(1) << first;
     for (unsigned other = 1; other < NUMBERS; other++)
@@ -107,7 +115,7 @@ static void try_empty(const struct call *call, struct seen *seen)
             for (int g = 0; g < FIELDS; g++)
                 if (f == FIELDS || g == f)
                     o.slice[g].len = 0;
-            seen->wrong += !agrees(call, &o, BETWEEN_WORDS, 1);
+            note(agrees(call, &o, BETWEEN_WORDS, 1), seen);
             seen->empty++;
         }
     }
@@ -169,11 +177,13 @@ static unsigned long pairs(const struct seen *seen)
     return sum;
 }
 
-int main(void)
+int main(int arguments, char **argument)
 {
     unsigned long wrong = 0, all = 0;
     int good = 1;
 
+    (void)argument;
+    ends_early = arguments > 1;
     watch_calls(600);
     printf("%-41s %9s %9s %9s %9s %9s\n", "call", "accepted", "refused", "pairs", "empty", "wrong");
     for (size_t i = 0; i < call_count; i++) {
