@@ -4,7 +4,7 @@
 A table of CALLS.md stands under a heading `## CRATE: ..`, a row a call: names | operands | numbers | promise. Checked:
 - each public function of the crate is named in one row, and each name of a row is a public function of the crate;
 - the first name of the promise column stands in the contract of each call of the row;
-- the promise column says what the tag is where the promise is one of `WritesTagged`, as its definition has it, and only there;
+- the promise column says what the tag is where the promise is one of `WritesTagged` or of tags in place, as its definition has it, and only there;
 - the numbers are those of the rows (`row .. N`) that the promise's definition reaches in specs/, in the order of scheme/specs/Checks
   (18 and 19, the programs' own, stand before it). A definition that says only that a number applies lists none.
 """
@@ -16,7 +16,11 @@ ROOT = Path(__file__).resolve().parent.parent
 FUNCTION = re.compile(r'^( *)pub (?:extern "C" )?fn (\w+)', re.M)
 NAME = re.compile(r"«?[A-Za-z_][\w']*»?")
 # How a tag is defined, and how CALLS.md says it; the first that is found.
-TAGS = [('tag_from (Fresh', '; the tally is E'), ('tag_of (add_tally', '; the tallies are added'), ('tag_from ', '; no tally')]
+TAGS = [
+    ('tag_from (Fresh', '; the tally is E, c is 1'), ('tag_of (add_carried', '; the tallies and the c are added'),
+    ('tag_from (Switched', '; no tally, c is kept'), ('tag_from (Sample', '; no tally, c is kept'), ('switched_tags', '; of each row no tally, c is kept'),
+    ('tag_from ', '; no tally, c is 1'),
+]
 
 
 def comments_out(text, mark):
@@ -99,7 +103,7 @@ def home_of(crate, name, specs):
 
 def tag_said(definition):
     """What is to be said of the tag of a call with this promise."""
-    if 'WritesTagged ' not in definition:
+    if 'WritesTagged ' not in definition and 'switched_tags' not in definition:
         return None
     return next((said for how, said in TAGS if how in definition), 'a tag of another kind')
 
