@@ -53,6 +53,7 @@ plant "the mark leaves c out" results.c 's|2 \* t \* tally + c \* t <|2 * t * ta
 plant "the mark counts one rounding" results.c 's|2 \* t \* tally + c \* t <|2 * t * tally + t <|'
 plant "the mark counts c without t" results.c 's|2 \* t \* tally + c \* t <|2 * t * tally + c <|'
 plant "the mark is good where both are equal" results.c 's|+ c \* t < q_of|+ c * t <= q_of|'
+plant "the mark is counted in 64 bits" results.c 's|const wide t = o->t, tally|const uint64_t t = o->t, tally|'
 plant "c of data saved without it is 0" results.c '/^saigagalena_tag uncounted_tag/,/^}/ s|, 1}|, 0}|'
 plant "a tally saved without c is kept" results.c '/^saigagalena_tag uncounted_tag/,/^}/ s|{SAIGAGALENA_NO_TALLY, 1}|{o->tag[0].tally, 1}|'
 plant "a c of 65536 is refused" model.c 's|return c > 65536;|return c >= 65536;|'

@@ -132,6 +132,11 @@ static void draw_near_mark(struct draw *d, struct operands *o)
 
     if (c <= steps)
         o->tag[0].tally = (steps - c) / 2 + draw_below(d, 2);
+    /* the least tally with 2t * tally at 2^64: a product in 64 bits would be small, and good */
+    if (o->t >= UINT32_C(1) << 31 && draw_below(d, 2)) {
+        o->tag[0].tally = ((UINT64_C(1) << 63) + o->t - 1) / o->t;
+        o->tag[0].count = (uint32_t)draw_below(d, 2);
+    }
 }
 
 /* The longest slice of the call, about; the input is not drawn yet. */
