@@ -4,8 +4,7 @@ use crate::reasons;
 use check_order::Refusal;
 use key_switch::key_switch_batch_to;
 use key_switch_parameters::LweKeySwitchingParameters;
-use pooling::{LweDecryptionParameters, add_saved, begin_saved};
-use primus_lattice::LweTag;
+use pooling::{LweDecryptionParameters, LweTag, add_saved, begin_saved};
 
 // The words of the total, a tag for each place, and how many rows were added.
 // Stays: tags beside the words: `pooling` is lent them so; and rows 0 for a total that has not begun, no Option: it is printed.

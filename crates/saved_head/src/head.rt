@@ -68,7 +68,8 @@ impl Head {
     // Ciphertexts of one message have tallies and numbers c, a packed one a c, and nothing else has anything beside its words.
     fn beside_refused(self) -> bool
         ensures { result ≡ pick (is_ciphertexts self.kind) (ltb 3 self.beside)
-            (pick (is_packed self.kind) (not (eqb self.beside 0) && not (eqb self.beside 2)) (not (eqb self.beside 0))) }
+            (pick (is_packed self.kind) (not (eqb self.beside 0) && not (eqb self.beside 2))
+            (not (eqb self.beside 0))) }
     {
         if self.kind.is_ciphertexts() {
             return 3 < self.beside;
