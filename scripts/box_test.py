@@ -26,7 +26,7 @@ BROKEN = "refused 19: not a whole file of this layout: cut off, too long or anot
 MISSING = "refused 19: there is no such file, or it cannot be opened"
 OTHER = "refused 19: a file of another kind, modulus or plaintext modulus"
 LENGTH = "refused 10: ciphertexts have the wrong length or dimension"
-TALLY = "refused 17: a tally, given or summed, is above 2^32"
+TALLY = "refused 17: a tally, given or summed, is above 2^32, or a number of encryptions above 65536"
 PLAINTEXT = "refused 7: the plaintext modulus is below 2"
 SHOPS = [f"shop_{i}" for i in range(1, 10)]
 # counts in cents (T-10), modulo t
