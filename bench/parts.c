@@ -8,8 +8,6 @@
 
 enum { RUNS = 7, BASE_LOG = 4, BATCH = 64 };
 
-static saigagalena_tag tags[BATCH];
-
 struct job {
     uint32_t modulus;
     size_t n, m, levels;
@@ -17,10 +15,23 @@ struct job {
     size_t key_len, input_len, out_len, mask_len;
 };
 
+/* Release 6 is the first whose batch of switches is lent tags. */
+static uint32_t switch_batch(struct job *j, size_t out_len)
+{
+#if SAIGAGALENA_VERSION >= 6
+    static saigagalena_tag tags[BATCH];
+
+    return saigagalena_key_switch_batch(j->modulus, BASE_LOG, 0, j->n, j->m, j->key, j->key_len, j->input, j->input_len, tags, BATCH,
+                                        j->out, out_len);
+#else
+    return saigagalena_key_switch_batch(j->modulus, BASE_LOG, 0, j->n, j->m, j->key, j->key_len, j->input, j->input_len, j->out, out_len)
+        .refusal;
+#endif
+}
+
 static uint32_t whole(struct job *j)
 {
-    return saigagalena_key_switch_batch(j->modulus, BASE_LOG, 0, j->n, j->m, j->key, j->key_len, j->input, j->input_len, tags, BATCH,
-                                        j->out, j->out_len);
+    return switch_batch(j, j->out_len);
 }
 
 static uint32_t checks(struct job *j)
@@ -29,8 +40,7 @@ static uint32_t checks(struct job *j)
     size_t shorter = j->modulus ? 0 : 1;
 
     *last = UINT32_MAX;
-    uint32_t answer = saigagalena_key_switch_batch(j->modulus, BASE_LOG, 0, j->n, j->m, j->key, j->key_len, j->input, j->input_len,
-                                                   tags, BATCH, j->out, j->out_len - shorter);
+    uint32_t answer = switch_batch(j, j->out_len - shorter);
     *last = good;
     return answer;
 }
@@ -90,9 +100,9 @@ static void report(uint32_t modulus, size_t n, size_t m)
 
 int main(void)
 {
+    if (saigagalena_version() != SAIGAGALENA_VERSION)
+        return 1;
     static const uint32_t moduli[] = {0, 2147483629, 65536};
-    for (size_t i = 0; i < BATCH; i++)
-        tags[i] = saigagalena_uncounted_tag();
     puts("| modulus (0 native) | n / m | a batch of 64 | checks | digits | sums |\n|---|---|---|---|---|---|");
     for (size_t i = 0; i < sizeof moduli / sizeof *moduli; i++) {
         report(moduli[i], 630, 630);
