@@ -18,7 +18,7 @@ use Rattle.lwe_tag.specs.declared.LweTag.{LweTag}
 use Rattle.saved_head.specs.Head.{head_of}
 use Rattle.saved.specs.Layout.{tallies_start, counts_start, file_word, file_words, saved_tag}
 use Rattle.lwe_parameters.specs.declared.parameter.LweDecryptionParameters.{LweDecryptionParameters}
-use Rattle.pooling_rows.specs.Rows.{place_tag, added_tag, place_sum, place_fails, tags_fail, saved_fail, add_tags, saved_tags}
+use Rattle.pooling_rows.specs.Rows.{place_tag, added_tag, place_sum, place_fails, places_fail, saved_fail, add_tags, saved_tags}
 use Rattle.pooling_refusals.specs.Rows.{own_rows, size_rows, file_refusal, begin_refusal, total_refusal}
 use Rattle.pooling.specs.Total.{BeginsSaved, AddsSaved}
 
@@ -58,9 +58,9 @@ module _ (s u : List ℕ) (len : length s ≡ length u) (before : (k : ℕ) → 
         late (counts_start u + 4 * i) (omega arith),
       )
 
-  tags_fail_same : (ts : List LweTag) → tags_fail ts s ≡ tags_fail ts u
-  unfolding tags_fail
-  tags_fail_same ts =
+  places_fail_same : (ts : List LweTag) → places_fail ts s ≡ places_fail ts u
+  unfolding places_fail
+  places_fail_same ts =
       ap not
       (all_ext (λ i. not (place_fails ts s i)) (λ i. not (place_fails ts u i)) (tabulate (length ts) (λ i. i))
       (λ i. ap (λ g. not (applies (tag_rows (place_tag ts i) g) 17)) (tag_same i)))
@@ -104,7 +104,7 @@ module _ (s u : List ℕ) (len : length s ≡ length u) (before : (k : ℕ) → 
     unfolding head_of
     total_same =
         ap₂ (λ first rest. file_refusal (first ++ rest)) judged_same
-        (rw (late 44 (omega arith), words_same (word32 u 44), tags_fail_same ts))
+        (rw (late 44 (omega arith), words_same (word32 u 44), places_fail_same ts))
 
     begin_same : begin_refusal p s (length xs) (length ts) ≡ begin_refusal p u (length xs) (length ts)
     unfolding head_of

@@ -12,7 +12,7 @@ use Rattle.lwe_tag.specs.Answers.{cap, carried_of, tag_fails, untallied}
 use Rattle.lwe_tag.proofs.Laws.{tag_back}
 use Rattle.saved.specs.Layout.{saved_carried, saved_tag}
 use Rattle.saved.proofs.Tags.{saved_fails, saved_is}
-use Rattle.pooling_rows.specs.Rows.{place_tag, place_sum, tags_fail, saved_fail, add_tags, saved_tags}
+use Rattle.pooling_rows.specs.Rows.{place_tag, place_sum, places_fail, saved_fail, add_tags, saved_tags}
 use Rattle.pooling.proofs.Laws.{place_ok, saved_ok}
 
 -- what the file says, where 17 does not apply to it
@@ -22,7 +22,7 @@ held s i h = saved_is s i (sym (saved_fails s i) ∙ h)
 pub begun_carried : (k : ℕ) (s : List ℕ) (i : ℕ) → saved_fail k s ≡ false → i < k → carried_of (place_tag (saved_tags k s) i) ≡ saved_carried s i
 begun_carried k s i e h = ap carried_of (tabulate_at untallied k (saved_tag s) i h) ∙ held s i (saved_ok k s i e h)
 
-pub added_carried : (ts : List LweTag) (s : List ℕ) (i : ℕ) → tags_fail ts s ≡ false → i < length ts
+pub added_carried : (ts : List LweTag) (s : List ℕ) (i : ℕ) → places_fail ts s ≡ false → i < length ts
     → carried_of (place_tag (add_tags ts s) i) ≡ add_carried (carried_of (place_tag ts i)) (saved_carried s i)
 added_carried ts s i e h =
     let x = place_tag ts i in

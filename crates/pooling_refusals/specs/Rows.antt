@@ -13,7 +13,7 @@ use Rattle.saved_head.specs.declared.head.Head.{Head}
 use Rattle.saved_head.specs.Kind.{is_ciphertexts}
 use Rattle.saved_head.specs.Head.{head_of, file_rows}
 use Rattle.saved.specs.Layout.{file_words}
-use Rattle.pooling_rows.specs.Rows.{tags_fail, saved_fail}
+use Rattle.pooling_rows.specs.Rows.{places_fail, saved_fail}
 use Rattle.lwe_parameters.specs.declared.parameter.LweDecryptionParameters.{LweDecryptionParameters}
 
 -- 19: a file of another kind, or made with another q or t, is unknown to this total
@@ -59,7 +59,7 @@ total_rows p h s xs ts =
     ++ size_rows p h (length xs) (length ts)
     ++ row (words_fail (size_of p.modulus) xs) 14
     ∷ row (words_fail (size_of p.modulus) (file_words s h.words)) 14
-    ∷ row (tags_fail ts s) 17
+    ∷ row (places_fail ts s) 17
     ∷ []
 
 -- 19 comes first, since of what is no file of this total nothing can be judged; then the order

@@ -107,7 +107,7 @@ fn judged(
     sizes(params, h, total.len(), tags.len()).judge()?;
     let mut v = Values::default();
     v.word = words_refused(params.modulus, total, bytes, h);
-    v.tally = pooling_rows::tags_refused(tags, bytes);
+    v.tally = pooling_rows::places_refused(tags, bytes);
     v.judge()
 }
 

@@ -19,8 +19,8 @@ somewhere k f = not (all_of (λ i. not (f i)) (tabulate k (λ i. i)))
 abbrev pub place_fails : List LweTag → List ℕ → ℕ → Bool
 place_fails ts s i = applies (tag_rows (place_tag ts i) (saved_tag s i)) 17
 
-unfoldable pub tags_fail : List LweTag → List ℕ → Bool
-tags_fail ts s = somewhere (length ts) (place_fails ts s)
+unfoldable pub places_fail : List LweTag → List ℕ → Bool
+places_fail ts s = somewhere (length ts) (place_fails ts s)
 
 -- 17, where the file s is the first of k places
 unfoldable pub saved_fail : ℕ → List ℕ → Bool

@@ -1,13 +1,13 @@
 // The tags of a total, one for each place.
 ghost use Rattle.std.specs.Prelude.{◌≡◌, length};
-ghost use Rattle.pooling_rows.specs.Rows.{tags_fail, saved_fail, saved_tags};
+ghost use Rattle.pooling_rows.specs.Rows.{places_fail, saved_fail, saved_tags};
 
 use lwe_tag::LweTag;
 
 // 17, at some place: the tally or c of the total there, that of the file, or their sum.
-#[tactic(auto, using(crate::proofs::Laws::somewhere_none, crate::proofs::Laws::somewhere_next), unfolding(crate::specs::Rows::tags_fail))]
-pub fn tags_refused(tags: &[LweTag], bytes: &[u8]) -> bool
-    ensures { result ≡ tags_fail tags.now bytes.now }
+#[tactic(auto, using(crate::proofs::Laws::somewhere_none, crate::proofs::Laws::somewhere_next), unfolding(crate::specs::Rows::places_fail))]
+pub fn places_refused(tags: &[LweTag], bytes: &[u8]) -> bool
+    ensures { result ≡ places_fail tags.now bytes.now }
 {
     let mut any = false;
     for (i, tag) in tags.iter().enumerate() {

@@ -1,6 +1,6 @@
 use Rattle.std.proofs.Common.{arith}
 use Rattle.pooling_rows.proofs.Laws.{place_next}
-use Rattle.pooling_rows.proofs.tags.tags_refused.Goals as goal
+use Rattle.pooling_rows.proofs.tags.places_refused.Goals as goal
 
 pub loop-i-preserved : goal.loop-i-preserved
 loop-i-preserved c =
