@@ -52,7 +52,8 @@ impl Refusal {
             Refusal::Word => "a word is not below the modulus",
             Refusal::Error => "an error is outside its limit, or a coefficient is none of -1, 0, 1",
             Refusal::Message => "a message is not below the plaintext modulus",
-            Refusal::Tally => "a tally, given or summed, is above 2^32, or a number of encryptions above 65536",
+            Refusal::Tally =>
+                "a tally, given or summed, is above 2^32, or a number of encryptions above 65536",
             Refusal::NoBasis => "a word comes before any accepted basis",
             Refusal::Unreadable => "an unknown command, or no whole file of its kind",
         }

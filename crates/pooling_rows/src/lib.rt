@@ -5,4 +5,4 @@ mod rows;
 mod tags;
 
 pub use rows::add_row;
-pub use tags::{saved_refused, places_refused, write_tags};
+pub use tags::{places_refused, saved_refused, write_tags};

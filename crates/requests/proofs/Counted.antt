@@ -2,29 +2,31 @@
 --     mark_was          with c 1 the mark is document 01's
 --     mark_only_lost    with a c of 1 or more, what is marked good now was marked good before
 --     uncounted_mark    what was saved without c is never marked good, whatever tally was saved
+--     saved_again       a tag that is saved with its tally and c is read back as it was
 --     sum_was           where no c is above 65,536, given or summed, the tallies alone say whether 17 refuses a sum
 --     place_begun       a place of a total that begins with a file is formed as the file's is
 --     place_added       and where a formed place meets a formed ciphertext of a file, their sum is formed: so if it is marked good it opens to the
 --                       sum of the messages (total_opens of theorems)
 -- Assumes nothing.
-use mathlib.Core.Path.{◌≡◌, refl, ap}
+use mathlib.Core.Path.{◌≡◌, refl, sym, ap}
 use mathlib.Core.Bool.{Bool, true, false, ◌||◌}
 use mathlib.Core.List.{List, [], ◌∷◌}
 use Prim.Native.Nat.{ℕ, ◌+◌, ◌*◌, ◌<◌, ◌≤◌}
 use native.Mathlib.Nat.{mul-le-mul_right}
 use native.Mathlib.Omega.{arith}
-use lib.Dec.{ltb}
+use lib.Dec.{eqb, ltb}
 use lib.IntN.{ℤ}
 use lib.ListN.{length}
-use borrow.Author.Tests.{ltb-true, lt-ltb, le-ltb}
-use Rattle.std.proofs.Common.{None}
+use borrow.Author.Tests.{eqb-true, ltb-true, lt-ltb, le-ltb}
+use Rattle.std.proofs.Common.{Some, None}
+use Rattle.scheme.specs.Numbers.{pick}
 use Rattle.scheme.specs.Lwe.{row_of}
 use Rattle.scheme.specs.Tally.{Tally, Absent, Present, carried_saved, add_tally, good, tally_fails, count_fails}
 use Rattle.scheme.specs.Checks.{row, refusal, modulus_fails, dimension_fails, length_fails, words_fail}
 use Rattle.primus_reduce.specs.Ring.{meant, size_of}
 use Rattle.primus_reduce.specs.declared.modulus.Modulus.{Modulus}
 use Rattle.lwe_tag.specs.declared.LweTag.{LweTag}
-use Rattle.lwe_tag.specs.Answers.{cap, carried_of}
+use Rattle.lwe_tag.specs.Answers.{cap, no_tally, meant_tally, held_tally, tally_for, number_of_tally, carried_of, tag_saved}
 use Rattle.primus_lattice.specs.Answers.{add_rows}
 use Rattle.saved.specs.Layout.{file_words, saved_tag}
 use Rattle.lwe_parameters.specs.declared.parameter.LweDecryptionParameters.{LweDecryptionParameters}
@@ -51,6 +53,14 @@ mark_only_lost q t c (Present a) h e =
 
 pub uncounted_mark : (q t : ℕ) (u : Tally) → good q t (carried_saved u None) ≡ false
 uncounted_mark q t u = refl
+
+-- a tally is saved as its number, 2^64 − 1 where there is none
+pub saved_again : (g : LweTag) → tag_saved (meant_tally (tally_for g.tally)) (Some g.count) ≡ g
+saved_again g = ap (λ (a : ℕ). let k : LweTag = record { tally = a; count = g.count } in k) (go (eqb g.tally no_tally) refl)
+  where
+    go : (b : Bool) → eqb g.tally no_tally ≡ b → number_of_tally (held_tally (meant_tally (pick b None (Some g.tally)))) ≡ g.tally
+    go true e = sym (eqb-true g.tally no_tally e)
+    go false e = refl
 
 -- ---- sums
 
