@@ -2,12 +2,12 @@
 -- Assumes nothing.
 use mathlib.Core.Path.{◌≡◌, refl, sym, ap, ◌∙◌}
 use mathlib.Core.List.{List, zip_with}
-use Prim.Native.Nat.{ℕ, ◌+◌, ◌*◌, ◌-◌, ◌≤◌, ◌<◌}
+use Prim.Native.Nat.{ℕ, zero, suc, ◌+◌, ◌*◌, ◌-◌, ◌≤◌, ◌<◌}
 use native.Mathlib.Nat.{mod-eq_of_lt}
 use native.Mathlib.Omega.{arith}
 use native.Mathlib.Decide.{ℕ_discrete}
 use lib.Dec.{eqb}
-use lib.IntN.{ℤ, pos, ◌+ℤ◌, +ℤ_idr, zero-*ℤ}
+use lib.IntN.{ℤ, pos, negsuc, nat_abs, ◌+ℤ◌, +ℤ_idr, zero-*ℤ}
 use lib.ListN.{length, get_or, set, take, drop, length-set}
 use lib.Seq.{ext_get_or, get_or-set_same, get_or-set_other}
 use borrow.Author.Tests.{eq-eqb, ne_eqb}
@@ -38,6 +38,15 @@ pub is_zip : (f : ℕ → ℕ → ℕ) (xs ys zs : List ℕ) → length xs ≡ l
 is_zip f xs ys zs e l h =
     ext_get_or 0 zs (zip_with f xs ys) (l ∙ sym (length_zip f xs ys e))
     (λ i k. h i (omega arith) ∙ sym (zip_at f xs ys i e (omega arith)))
+
+-- a row whose coefficient is neither 1 nor −1
+pub left_out : (q : ℕ) (r : ℤ) (xs ys : List ℕ) → nat_abs r < 2 → (r ≡ pos 1 → ⊥) → (r ≡ negsuc 0 → ⊥) → length xs ≡ length ys → Below q xs
+    → xs ≡ zip_with (plus_times q r) xs ys
+left_out q (pos zero) xs ys small one minus e b = is_zip (plus_times q (pos 0)) xs ys xs e refl (λ i h. same_word q (get_or xs i 0) (get_or ys i 0) (b i h))
+left_out q (pos (suc zero)) xs ys small one minus e b = absurd (one refl)
+left_out q (pos (suc (suc n))) xs ys small one minus e b = absurd (omega (arith, small))
+left_out q (negsuc zero) xs ys small one minus e b = absurd (minus refl)
+left_out q (negsuc (suc n)) xs ys small one minus e b = absurd (omega (arith, small))
 
 -- word k before any row
 module _ (q n k : ℕ) (f : ℕ → ℤ) (h : 0 < q) (error : ℕ) (e : error ≡ modulo q (f k)) where

@@ -6,7 +6,7 @@ use Rattle.std.proofs.lemmas.Int.{to_z-of_z}
 use Rattle.primus_reduce.specs.Ring.{size_of}
 use Rattle.lwe_public_rows.specs.Public.{plus_times}
 use Rattle.lwe_public_rows.proofs.Laws.{is_zip}
-use Rattle.lwe_public_rows.proofs.rows.add_multiple.Goals as goal
+use Rattle.lwe_public_rows.proofs.rows.add_row.Goals as goal
 
 pub returns : goal.returns
 returns c =

@@ -1,7 +1,7 @@
 use Rattle.std.proofs.Common.{◌≡◌, ◌<◌, ◌≤◌, ℕ, get_or}
 use Rattle.primus_reduce.specs.Ring.{size_of}
 use Rattle.lwe_public_rows.specs.Public.{plus_times}
-use Rattle.lwe_public_rows.proofs.rows.add_multiple.Given as goal
+use Rattle.lwe_public_rows.proofs.rows.add_row.Given as goal
 
 abbrev pub invariant-loop-k : goal.invariant-loop-k
 invariant-loop-k l =
