@@ -1,6 +1,6 @@
 -- Sums of products, each factor by its word.
 -- Assumes nothing.
-use Rattle.std.proofs.Common.{◌≡◌, ℕ, ◌+◌, ◌-◌, ◌*◌, ◌%◌, ◌<◌, ◌≤◌, List, map, min, length, get_or, ℤ, pos, sym, refl, ap, ap₂, ◌∙◌, add-one, arith}
+use Rattle.std.proofs.Common.{◌≡◌, ℕ, ◌+◌, ◌-◌, ◌*◌, ◌%◌, ◌<◌, ◌≤◌, List, map, min, length, get_or, ℤ, pos, sym, refl, ap, ◌∙◌, add-one, arith}
 use native.Mathlib.Nat.{mul-zero}
 use native.Mathlib.Decide.{dec_le}
 use lib.ListN.{get_or-eq_default}
@@ -41,14 +41,12 @@ dot-is xs ys = sum-pos (length xs) (product xs ys) ∙ ap pos (go (dec_le (lengt
         shorter = omega arith
 
 module _ {B : Type 0} (w : B → ℕ) (xs : List ℕ) (ys : List B) where
-  -- one product more
-  pub product_next : (n x : ℕ) (y : B) (r : ℕ)
-      → (n < length xs) × (n < length ys) × ((d : ℕ) → x ≡ get_or xs n d) × ((d : B) → y ≡ get_or ys n d) → r ≡ w y
-      → sum_ℕ (n + 1) (product xs (map w ys)) ≡ sum_ℕ n (product xs (map w ys)) + x * r
-  product_next n x y r t e =
+  -- one product more, of the numbers at place n
+  pub product_next : (n : ℕ) (y : B) (r : ℕ) → n < length ys → y ≡ get_or ys n y → r ≡ w y
+      → sum_ℕ (n + 1) (product xs (map w ys)) ≡ sum_ℕ n (product xs (map w ys)) + get_or xs n 0 * r
+  product_next n y r h is e =
       sum_more n (product xs (map w ys))
-      ∙ ap (λ z. sum_ℕ n (product xs (map w ys)) + z)
-      (ap₂ (λ a b. a * b) (sym (t.2 0)) (get_or-map w ys n y 0 t.1 ∙ ap w (sym (t.3 y)) ∙ sym e))
+      ∙ ap (λ z. sum_ℕ n (product xs (map w ys)) + get_or xs n 0 * z) (get_or-map w ys n y 0 h ∙ ap w (sym is) ∙ sym e)
 
   -- a sum of words modulo q, where the words stand for what D sums
   pub dot_mod : (q r : ℕ) (D : ℤ) → modulo q (dot xs (map w ys)) ≡ modulo q D → (q ≡ 0 → ⊥)

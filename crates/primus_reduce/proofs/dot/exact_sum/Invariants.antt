@@ -1,11 +1,11 @@
-use Rattle.std.proofs.Common.{◌≡◌, ◌*◌, ◌^◌, ◌≤◌, map, length}
+use Rattle.std.proofs.Common.{◌≡◌, ◌*◌, ◌^◌, ◌≤◌, map}
 use Rattle.scheme.specs.Numbers.{sum_ℕ}
 use Rattle.primus_reduce.specs.Ring.{size_of}
 use Rattle.primus_reduce.specs.Dot.{product}
 use Rattle.primus_reduce.proofs.dot.exact_sum.Given as goal
 
-abbrev pub invariant-loop-x : goal.invariant-loop-x
-invariant-loop-x g l = record {
-  so_far : l.sum ≡ sum_ℕ (length l.yielded) (product l.a (map (g.T.Factor.word_of (size_of l.modulus)) l.b));
-  small : l.sum ≤ length l.yielded * 2 ^ 64;
+abbrev pub invariant-loop-i : goal.invariant-loop-i
+invariant-loop-i g l = record {
+  so_far : l.sum ≡ sum_ℕ l.i (product l.a (map (g.T.Factor.word_of (size_of l.modulus)) l.b));
+  small : l.sum ≤ l.i * 2 ^ 64;
 }
