@@ -26,16 +26,28 @@ fn rest_of(s: &[u8], i: usize) -> &[u8]
     s.get(i..).unwrap_or(&[])
 }
 
-// N bytes from i on.
+// The first N bytes of a run that may have fewer.
 #[tactic(auto, using(crate::proofs::Laws::padded))]
-fn bytes_at<const N: usize>(s: &[u8], i: usize) -> [u8; N]
-    ensures { (k : ℕ) → k < N → get_or result k 0 ≡ get_or s.now (i + k) 0 }
+fn cut_off<const N: usize>(rest: &[u8]) -> [u8; N]
+    ensures { (k : ℕ) → k < N → get_or result k 0 ≡ get_or rest.now k 0 }
 {
-    let rest = rest_of(s, i);
     let n = rest.len().min(N);
     let mut bytes = [0; N];
     bytes[..n].copy_from_slice(&rest[..n]);
     bytes
+}
+
+// N bytes from i on: where they are all there, in one load.
+#[tactic(auto, using(crate::proofs::Laws::whole, crate::proofs::Laws::from_there))]
+fn bytes_at<const N: usize>(s: &[u8], i: usize) -> [u8; N]
+    ensures { (k : ℕ) → k < N → get_or result k 0 ≡ get_or s.now (i + k) 0 }
+{
+    let rest = rest_of(s, i);
+    match rest.first_chunk::<N>() {
+        Some(bytes) => *bytes,
+        None if rest.is_empty() => [0; N],
+        None => cut_off(rest),
+    }
 }
 
 // Four bytes from i on. Stays beside `u64_at`: a trait over two widths is no plainer than two lines.
