@@ -4,4 +4,4 @@
 
 mod packed;
 
-pub use packed::{phases, write_packed};
+pub use packed::{phases, write_packed, write_plaintexts};

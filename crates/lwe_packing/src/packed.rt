@@ -7,6 +7,7 @@ ghost use Rattle.lwe_errors.specs.Errors.{errors_in};
 
 use lwe_errors::LweErrorsRef;
 use lwe_secret_key::body;
+use primus_lattice::copy_words;
 use primus_reduce::{Factor, Ring};
 
 // A mask and a key of as many words.
@@ -73,6 +74,31 @@ pub fn phases(out: &mut [u32], input: &[u32], secret: &[u32], ring: Ring)
     }
 }
 
+// A mask, and then a body for each plaintext: each word is written once.
+// Stays beside `write_packed`, whose bodies hold their plaintexts: messages are encoded there, and these are lent.
+#[tactic(auto, using(scheme::proofs::Lists::is_tabulate), unfolding(scheme::specs::Lwe::packed))]
+pub fn write_plaintexts(
+    out: &mut [u32],
+    mask: &[u32],
+    secret: &[u32],
+    errors: LweErrorsRef,
+    plaintexts: &[u32],
+    ring: Ring,
+)
+    requires { let n = length mask.now in (length secret.now ≡ n) × (length plaintexts.now ≤ n)
+        × (length out.old ≡ n + length plaintexts.now) }
+    ensures { let n = length mask.now in
+        out.new ≡ packed (size_of ring.modulus) n (length plaintexts.now) mask.now
+        (words secret.now) (errors_in ring.modulus errors.entry) (words plaintexts.now) }
+{
+    let (start, bodies) = out.split_at_mut(mask.len());
+    copy_words(start, mask);
+    let rotation = Rotation { mask, secret, ring };
+    for (i, body) in bodies.iter_mut().enumerate() {
+        *body = rotation.body(errors, i, plaintexts[i]);
+    }
+}
+
 // A mask, and then the bodies, which hold their plaintexts.
 #[tactic(auto, using(scheme::proofs::Lists::is_tabulate), unfolding(scheme::specs::Lwe::packed))]
 pub fn write_packed(out: &mut [u32], mask: &[u32], secret: &[u32], errors: LweErrorsRef, ring: Ring)
@@ -83,7 +109,7 @@ pub fn write_packed(out: &mut [u32], mask: &[u32], secret: &[u32], errors: LweEr
         (words secret.now) (errors_in ring.modulus errors.entry) (words (drop n out.old)) }
 {
     let (front, bodies) = out.split_at_mut(mask.len());
-    front.copy_from_slice(mask);
+    copy_words(front, mask);
     let rotation = Rotation { mask, secret, ring };
     for (i, body) in bodies.iter_mut().enumerate() {
         *body = rotation.body(errors, i, *body);

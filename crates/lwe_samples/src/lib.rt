@@ -13,7 +13,7 @@ ghost use Rattle.lwe_samples.specs.Answers.{body_fails, extract_rows, Extracts};
 
 use check_order::{Refusal, Sizes, Values};
 use lwe_tag::LweTag;
-use primus_lattice::LweDimension;
+use primus_lattice::{LweDimension, copy_words};
 use primus_reduce::{Modulus, Ring};
 
 // 10: fewer than n words, or more than n bodies. No sum: it could overflow.
@@ -70,7 +70,7 @@ fn write_extracted(out: &mut [u32], input: &[u32], index: usize, ring: Ring)
     let (mask, bodies) = input.split_at(n);
     let (plain, wrapped) = mask.split_at(n - index);
     let (start, rest) = out.split_at_mut(index);
-    rest[..n - index].copy_from_slice(plain);
+    copy_words(&mut rest[..n - index], plain);
     rest[n - index] = bodies[index];
     for (k, word) in start.iter_mut().enumerate() {
         *word = ring.modulus.reduce_neg(wrapped[k]);

@@ -9,6 +9,7 @@ ghost use Rattle.lwe_errors.specs.Errors.{errors_in};
 
 use crate::key::LweSecretKeyRef;
 use lwe_errors::LweErrorsRef;
+use primus_lattice::copy_words;
 use primus_reduce::{Factor, Ring};
 
 fn write(out: &mut [u32], mask: &[u32], body: u32)
@@ -16,7 +17,7 @@ fn write(out: &mut [u32], mask: &[u32], body: u32)
     ensures { out.new ≡ mask.now ++ (body ∷ []) }
 {
     let n = mask.len();
-    out[..n].copy_from_slice(mask);
+    copy_words(&mut out[..n], mask);
     out[n] = body;
 }
 

@@ -27,9 +27,7 @@ pub fn encrypt_encoded_packed(
     let ring = Ring {
         modulus: params.modulus,
     };
-    let (_, bodies) = out.split_at_mut(mask.len());
-    bodies.copy_from_slice(plaintexts);
-    lwe_packing::write_packed(out, mask, secret, errors, ring);
+    lwe_packing::write_plaintexts(out, mask, secret, errors, plaintexts, ring);
     Ok(LweTag::untallied())
 }
 
