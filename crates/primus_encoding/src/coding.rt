@@ -99,7 +99,9 @@ impl RoundedCodec {
         Ok(moduli)
     }
 
-    // Each word of the input, in its place.
+    // Each word of the input, in its place. Inlined, so that each call has a loop of its own kind and embedding: else one word takes
+    // three times as long.
+    #[inline(always)]
     #[tactic(auto, using(check_order::proofs::Answers::unwritten))]
     pub(crate) fn code_slice_to(
         self,
@@ -115,7 +117,8 @@ impl RoundedCodec {
         Ok(())
     }
 
-    // In place: the input is what the output holds.
+    // In place: the input is what the output holds. Inlined as `code_slice_to` is.
+    #[inline(always)]
     #[tactic(auto, using(check_order::proofs::Answers::unwritten))]
     pub(crate) fn code_slice_assign(self, coding: Coding, values: &mut [u32]) -> Result<(), Refusal>
         ensures { CodesSlice coding self.plaintext_modulus self.ciphertext_modulus
