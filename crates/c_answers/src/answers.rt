@@ -1,6 +1,6 @@
 // Answers for C: a refusal's number, or it with a tag, or one number of 64 bits: the result, or 2^32 plus the refusal's number.
 ghost use Rattle.std.specs.Prelude.{◌≡◌};
-ghost use Rattle.check_order.specs.Answer.{code_of, number_of};
+ghost use Rattle.check_order.specs.Answer.{code_of};
 ghost use Rattle.c_answers.specs.Service.{outcome_of, refused_number, word_number, mark_number};
 
 use check_order::Refusal;
@@ -39,10 +39,11 @@ pub fn code(answer: Result<(), Refusal>) -> u32
     }
 }
 
-fn refused(refusal: Refusal) -> u64
-    ensures { result ≡ refused_number (number_of refusal) }
+// A refusal of any number.
+pub fn refused(number: u32) -> u64
+    ensures { result ≡ refused_number number }
 {
-    0x1_0000_0000 + u32::from(refusal) as u64
+    0x1_0000_0000 + number as u64
 }
 
 pub fn word_number(answer: Result<u32, Refusal>) -> u64
@@ -50,7 +51,7 @@ pub fn word_number(answer: Result<u32, Refusal>) -> u64
 {
     match answer {
         Ok(word) => word as u64,
-        Err(refusal) => refused(refusal),
+        Err(refusal) => refused(u32::from(refusal)),
     }
 }
 
@@ -60,6 +61,6 @@ pub fn mark_number(answer: Result<bool, Refusal>) -> u64
 {
     match answer {
         Ok(good) => u64::from(good),
-        Err(refusal) => refused(refusal),
+        Err(refusal) => refused(u32::from(refusal)),
     }
 }

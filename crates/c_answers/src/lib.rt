@@ -3,4 +3,4 @@
 
 mod answers;
 
-pub use answers::{LweOutcome, code, mark_number, word_number};
+pub use answers::{LweOutcome, code, mark_number, refused, word_number};

@@ -5,7 +5,7 @@ mod codec;
 mod lengths;
 mod parameters;
 
-pub use c_answers::{LweOutcome, code, mark_number, word_number};
+pub use c_answers::{LweOutcome, code, mark_number, refused, word_number};
 pub use c_basis::{write_basis, write_reading};
 pub use codec::{decode_number, encode_number};
 pub use lengths::{ciphertext_words, packed_words, public_key_words, switching_key_words};
