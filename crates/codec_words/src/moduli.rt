@@ -63,16 +63,19 @@ impl Moduli {
         switch_value(self.t as u64, self.modulus.size(), message) as u32
     }
 
-    // Centered: q − encode(t − m) from ⌈t/2⌉ on.
+    // Centered: q − encode(t − m) from ⌈t/2⌉ on. One encoding serves both, so that no word waits for a guess of which it is.
     #[tactic(auto, using(scheme::proofs::Modulus::size_most, crate::proofs::Laws::encode_most, crate::proofs::Laws::high_fits, crate::proofs::Laws::centered_from, crate::proofs::Laws::centered_until))]
     fn encode_centered(self, message: u32) -> u32
         requires { message < self.t }
         ensures { result ≡ encode_centered (size_of self.modulus) self.t message }
     {
-        if self.centered_negative_start() <= message {
-            (self.modulus.size() - self.encode(self.t - message) as u64) as u32
+        let negative = self.centered_negative_start() <= message;
+        let lifted = if negative { self.t - message } else { message };
+        let word = self.encode(lifted);
+        if negative {
+            (self.modulus.size() - word as u64) as u32
         } else {
-            self.encode(message)
+            word
         }
     }
 
