@@ -129,14 +129,12 @@ impl RoundedCodec {
         Ok(())
     }
 
-    // One word, as a slice of one.
+    // One word, judged as a slice of one, and made with no loop.
     #[tactic(auto, using(crate::proofs::Laws::value_refused, crate::proofs::Laws::value_given))]
     pub(crate) fn code_value(self, coding: Coding, x: u32, held: u32) -> Result<u32, Refusal>
         ensures { result ≡ coded_answer coding self.plaintext_modulus self.ciphertext_modulus x held }
     {
-        let input = [x];
-        let mut word = [held];
-        self.code_slice_to(coding, &input, &mut word)?;
-        Ok(word[0])
+        let moduli = self.judge_slice(coding, &[x], &[held])?;
+        Ok(code_word(coding, moduli, x, held))
     }
 }
