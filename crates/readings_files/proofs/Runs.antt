@@ -8,9 +8,9 @@ use mathlib.Core.List.{List, [], ◌∷◌, ◌++◌, append-nil, append_assoc}
 use Prim.Native.Nat.{ℕ, suc, ◌+◌, ◌-◌, ◌^◌, ◌≤◌, ◌<◌}
 use native.Mathlib.Decide.{ℕ_discrete}
 use native.Mathlib.Omega.{arith}
-use lib.ListN.{length, get_or, length-append, get_or-append}
+use lib.ListN.{length, take, get_or, length-append, get_or-append}
 use Rattle.std.proofs.Common.{Option, Some, None}
-use lib.Seq.{take_all, take-append-le, take-append_seam, get_or-append_seam}
+use lib.Seq.{take-append-le, take-append_seam, get_or-append_seam}
 use Rattle.readings_core.specs.declared.command.Turn.{Turn}
 use Rattle.readings_commands.specs.declared.Command.{Command}
 use Rattle.readings_reader.specs.declared.reader.Reader.{Reader}
@@ -18,7 +18,7 @@ use Rattle.readings_reader.specs.Run.{Line, due, start, fed, cut_off, finished, 
 use Rattle.readings_reader.proofs.Whole.{whole_run}
 use Rattle.readings_steps.specs.declared.step.Step.{Step}
 use Rattle.readings_steps.specs.Steps.{fed_all, turns_fed, step_of, ended}
-use Rattle.readings_steps.proofs.Fed.{fed-append, length-turns}
+use Rattle.readings_steps.proofs.Fed.{fed-append, length-turns, take_places}
 use Rattle.readings_files.specs.Runs.{Stepped, joined, ended_at, Ran, dues, handed}
 
 joined_one : (rs : List (List ℕ)) (xs : List ℕ) → joined (rs ++ xs ∷ []) ≡ joined rs ++ xs
@@ -110,15 +110,16 @@ lines_append m (x ∷ xs) ys =
     ∙ sym (append_assoc (due (fed m x).turn) (dues (turns_fed (fed m x) xs)) (lines_fed (fed_all (fed m x) xs) ys))
 
 -- of each read all turns have a place
-all_placed : (m : Reader) (xs : List ℕ) → length xs ≤ 64 → (step_of m xs).turns.items ≡ turns_fed m xs
-all_placed m xs h = take_all 64 (turns_fed m xs) (omega (arith, length-turns m xs))
+all_placed : (m : Reader) (xs : List ℕ) → length xs ≤ 64 → take (step_of m xs).count (step_of m xs).turns ≡ turns_fed m xs
+all_placed m xs h =
+    ap (λ n. take n (step_of m xs).turns) (sym (length-turns m xs)) ∙ take_places 64 m.turn (turns_fed m xs) (omega (arith, length-turns m xs))
 
 handed_lines : (m : Reader) (rs : List (List ℕ)) → ((i : ℕ) → i < length rs → length (get_or rs i []) ≤ 64)
     → handed m rs ++ due (finished (fed_all m (joined rs))) ≡ lines_fed m (joined rs)
 unfolding handed joined lines_fed fed_all
 handed_lines m [] h = refl
 handed_lines m (xs ∷ rs) h =
-    let D : List Line = dues (step_of m xs).turns.items in
+    let D : List Line = dues (take (step_of m xs).count (step_of m xs).turns) in
     let n : Reader = fed_all m xs in
     append_assoc D (handed n rs) (due (finished (fed_all m (xs ++ joined rs))))
     ∙ ap (λ r. D ++ (handed n rs ++ due (finished r))) (fed-append m xs (joined rs))

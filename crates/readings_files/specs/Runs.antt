@@ -36,7 +36,7 @@ unfoldable pub dues : List Turn → List Line
 dues [] = []
 dues (t ∷ ts) = due t ++ dues ts
 
--- the lines of each step's turns
+-- the lines of each step's first `count` turns
 unfoldable pub handed : Reader → List (List ℕ) → List Line
 handed m [] = []
-handed m (xs ∷ rs) = dues (step_of m xs).turns.items ++ handed (step_of m xs).reader rs
+handed m (xs ∷ rs) = dues (take (step_of m xs).count (step_of m xs).turns) ++ handed (step_of m xs).reader rs

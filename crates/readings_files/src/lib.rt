@@ -18,7 +18,8 @@ fn read_some(before: Reader, input: &mut impl Read, output: &mut impl Write) -> 
     let mut bytes = [0u8; 64];
     let n = input.read(&mut bytes).unwrap_or(0);
     let s = readings_steps::feed_all(before, &bytes[..n]);
-    readings_text::print_turns(output, &s.turns);
+    let turns = &s.turns;
+    readings_text::print_turns(output, &turns[..s.count]);
     s
 }
 
@@ -38,10 +39,10 @@ pub fn run(input: &mut impl Read, output: &mut impl Write) -> Turn
     let mut m = Reader::new();
     for _read in 0..u64::MAX {
         let s = read_some(m, input, output);
-        if s.ended() {
-            return last(s.reader, output);
-        }
         m = s.reader;
+        if s.ended() {
+            return last(m, output);
+        }
     }
     last(m, output)
 }

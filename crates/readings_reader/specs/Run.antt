@@ -1,5 +1,5 @@
 -- A whole run of the program: its commands one after the other, and the same byte by byte.
-use Rattle.std.specs.Prelude.{true, false, List, [], ◌∷◌, ◌++◌, ℕ, zero, suc, leb, length, take, drop, Option, Some, None, Result, Ok, Err}
+use Rattle.std.specs.Prelude.{true, false, List, [], ◌∷◌, ◌++◌, ℕ, zero, suc, ◌+◌, leb, ltb, length, take, drop, set, Option, Some, None, Result, Ok, Err}
 use Rattle.scheme.specs.Numbers.{pick}
 use Rattle.readings_core.specs.Program.{Session, over, silent}
 use Rattle.readings_commands.specs.Commands.{command_of, operands, turn_of}
@@ -55,34 +55,41 @@ lines_of xs = lines_within (length xs) None xs
 
 -- ---- byte by byte
 
--- no command has begun
-abbrev pub idle : Turn → Reader
-idle t = record { turn = t; command = None; held = record { items = [] } }
+-- no command has begun; the places of the operand bytes hold xs
+abbrev pub idle : Turn → List ℕ → Reader
+idle t xs = record { turn = t; command = None; held = xs; count = 0 }
 
 -- before the first byte
 abbrev pub start : Reader
-start = idle (silent None true)
+start = idle (silent None true) (0 ∷ 0 ∷ 0 ∷ 0 ∷ 0 ∷ 0 ∷ [])
 
--- the command c with the operand bytes xs: answered where it takes no more
-abbrev pub settled_by : Session → Command → List ℕ → Reader
-settled_by s c xs =
-    pick (leb (operands c) (length xs))
-    (idle (turn_of s c xs))
-    (record { turn = silent s true; command = Some c; held = record { items = xs } })
+-- the operand bytes with one more, of at most six
+abbrev pub put : List ℕ → ℕ → ℕ → List ℕ
+put xs n x = pick (ltb n 6) (set xs n x) xs
+
+abbrev pub one_more : ℕ → ℕ
+one_more n = pick (ltb n 6) (n + 1) 6
+
+-- the command c with n operand bytes: answered where it takes no more
+abbrev pub settled_by : Session → Command → List ℕ → ℕ → Reader
+settled_by s c xs n =
+    pick (leb (operands c) n)
+    (idle (turn_of s c (take n xs)) xs)
+    (record { turn = silent s true; command = Some c; held = xs; count = n })
 
 -- a command begins; what is none gets 19
-abbrev pub begun_by : Session → Result Command Refusal → Reader
-begun_by s (Ok c) = settled_by s c []
-begun_by s (Err e) = idle (over s)
+abbrev pub begun_by : Session → List ℕ → Result Command Refusal → Reader
+begun_by s xs (Ok c) = settled_by s c xs 0
+begun_by s xs (Err e) = idle (over s) xs
 
--- the operand of a command that has begun, of which there are at most six, or the next command
+-- the operand of a command that has begun, or the next command
 abbrev pub taken : Reader → ℕ → Option Command → Reader
-taken m x (Some c) = settled_by m.turn.session c (take 6 (m.held.items ++ x ∷ []))
-taken m x None = begun_by m.turn.session (command_of x)
+taken m x (Some c) = settled_by m.turn.session c (put m.held m.count x) (one_more m.count)
+taken m x None = begun_by m.turn.session m.held (command_of x)
 
 -- one byte more
 unfoldable pub fed : Reader → ℕ → Reader
-fed m x = pick m.turn.more (taken m x m.command) (idle (silent m.turn.session false))
+fed m x = pick m.turn.more (taken m x m.command) (idle (silent m.turn.session false) m.held)
 
 -- a command that has begun is cut off by the end of the input
 abbrev pub cut_off : Session → Option Command → Turn

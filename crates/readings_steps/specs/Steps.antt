@@ -1,6 +1,5 @@
 -- What the bytes of one read leave.
-use Rattle.std.specs.Prelude.{Bool, true, not, List, [], ◌∷◌, ℕ, eqb, take}
-use Rattle.arrayvec.specs.ArrayVec.{array_vec_len}
+use Rattle.std.specs.Prelude.{Bool, true, not, List, [], ◌∷◌, ℕ, zero, suc, eqb, length}
 use Rattle.scheme.specs.Numbers.{pick}
 use Rattle.readings_core.specs.declared.command.Turn.{Turn}
 use Rattle.readings_reader.specs.declared.reader.Reader.{Reader}
@@ -17,10 +16,21 @@ unfoldable pub turns_fed : Reader → List ℕ → List Turn
 turns_fed m [] = []
 turns_fed m (x ∷ xs) = (fed m x).turn ∷ turns_fed (fed m x) xs
 
--- the turns of the first 64 bytes: the turn after byte i stands at place i
+-- n places: the turns ts, and t where they leave any
+unfoldable pub places : ℕ → Turn → List Turn → List Turn
+places zero t ts = []
+places (suc n) t [] = t ∷ places n t []
+places (suc n) t (u ∷ ts) = u ∷ places n t ts
+
+-- the turn after byte i stands at place i, for the first 64 bytes; how many bytes there were
 abbrev pub step_of : Reader → List ℕ → Step
-step_of m xs = record { reader = fed_all m xs; turns = record { items = take 64 (turns_fed m xs) } }
+step_of m xs =
+    record {
+      reader = fed_all m xs;
+      turns = places 64 m.turn (turns_fed m xs);
+      count = length xs;
+    }
 
 -- the input has ended where a read gives no byte; "After 19 it ends."
 abbrev pub ended : Step → Bool
-ended s = pick (eqb (array_vec_len s.turns) 0) true (not s.reader.turn.more)
+ended s = pick (eqb s.count 0) true (not s.reader.turn.more)

@@ -1,25 +1,36 @@
-use Rattle.std.proofs.Common.{rules, refl, ap, ◌∙◌, [], ◌∷◌, ◌++◌}
-use Rattle.readings_steps.specs.Steps.{fed_all, turns_fed}
-use Rattle.readings_steps.proofs.Fed.{fed-next, put_next, full_next}
+use Rattle.std.proofs.Common.{◌≡◌, ◌+◌, refl, ap, ◌∙◌, length, take}
+use Rattle.std.proofs.Math.ListN.{set}
+use Rattle.readings_steps.specs.Steps.{fed_all, turns_fed, places}
+use Rattle.readings_steps.proofs.Fed.{fed-next, no_turns, length-places, put_next, full_next, step_so, first_turns}
 use Rattle.readings_steps.proofs.step.feed_all.Goals as goal
-use Rattle.readings_steps.proofs.step.feed_all.Goals.{then-not-is_full, else-not-is_full}
+use Rattle.readings_steps.proofs.step.feed_all.Goals.{then-i-lt64, else-i-lt64}
 
-pub loop-byte-init : goal.loop-byte-init
+pub loop-i-init : goal.loop-i-init
 unfolding fed_all turns_fed
-loop-byte-init c = (refl, c.new-turns.ensures)
+loop-i-init c = (refl, refl, no_turns 64 _)
 
-pub loop-byte-preserved : goal.loop-byte-preserved
-loop-byte-preserved c =
-    let h = c.loop-byte-test.true in
-    let v = c.loop-byte.invariant in
+pub loop-i-preserved : goal.loop-i-preserved
+loop-i-preserved c =
+    let h = c.loop-i-test.true in
+    let v = c.loop-i.invariant in
     let a = c.args.before in
-    let l = c.loop-byte in
-    let xs = c.args.bytes.now in (
-      c.feed-m.ensures ∙ fed-next a l.m xs l.byte-index h v.0,
-      elim c.if-not-is_full.branch [
-        | then-not-is_full w ↦ ap (λ v. v.items) w.turns-is ∙ w.push.ensures.items ∙ ap (λ r. l.turns.items ++ r.turn ∷ []) c.feed-m.ensures
-            ∙ put_next 64 a l.m xs l.byte-index h v.0 l.turns.items v.1 (search rules)
-        | else-not-is_full w ↦ ap (λ v. v.items) w.turns-is
-            ∙ full_next 64 a l.m xs l.byte-index h v.0 l.turns.items v.1 (search rules)
-      ],
+    let l = c.loop-i in
+    let placed : c.if-i-lt64.turns ≡ places 64 a.turn (turns_fed a (take (l.i + 1) c.args.bytes.now)) =
+    elim c.if-i-lt64.branch [
+      | then-i-lt64 w ↦ w.turns-is ∙ ap (λ r. set l.turns l.i r.turn) c.feed-m.ensures
+          ∙ put_next 64 a l.m c.args.bytes.now l.i h v.1 a.turn l.turns v.2
+      | else-i-lt64 w ↦ w.turns-is
+          ∙ full_next 64 a l.m c.args.bytes.now l.i h v.1 w.if-i-lt64.false a.turn l.turns v.2
+    ] in (
+      ap length placed ∙ length-places 64 _ _,
+      c.feed-m.ensures ∙ fed-next a l.m c.args.bytes.now l.i h v.1,
+      placed,
     )
+
+pub returns-clause-counted : goal.returns-clause-counted
+returns-clause-counted c =
+    let v = c.loop-i.invariant in
+    let a = c.args.before in
+    let l = c.loop-i in
+    let xs = c.args.bytes.now in
+    ap (λ s. take s.count s.turns) (step_so a l.m xs l.i l.turns c.loop-i-test.false v.1 v.2) ∙ first_turns a xs
