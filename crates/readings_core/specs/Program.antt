@@ -2,7 +2,7 @@
 use Rattle.std.specs.Prelude.{Bool, true, false, ℕ, Option, Some, None, Result, Ok, Err}
 use Rattle.scheme.specs.Modulus as S
 use Rattle.scheme.specs.Basis as B
-use Rattle.primus_reduce.specs.Ring.{meant}
+use Rattle.primus_reduce.specs.Ring.{meant, number_of}
 use Rattle.readings_digits.specs.Digits.{numbers, shown_digit}
 use Rattle.primus_decompose.specs.Answers as A
 use Rattle.check_order.specs.declared.refusal.Refusal.{Refusal}
@@ -23,7 +23,7 @@ Session = Option ApproxSignedBasis
 abbrev pub basis_line : ApproxSignedBasis → ℕ → BasisReply
 basis_line b t =
     record {
-      modulus = b.modulus;
+      modulus = number_of b.modulus;
       value_bits = S.bits 32 (meant b.modulus);
       log_basis = b.log_basis.0;
       level_count = b.level_count.0;

@@ -4,7 +4,6 @@ ghost use Rattle.readings_core.specs.Program.{basis_line, go, over, silent, basi
 
 use check_order::Refusal;
 use primus_decompose::ApproxSignedBasis;
-use primus_reduce::Modulus;
 use std::fmt;
 
 // The basis that was accepted last, if any.
@@ -13,7 +12,7 @@ pub type Session = Option<ApproxSignedBasis>;
 // `basis` q (0 = native) k base-log L d H T
 #[derive(Clone, Copy)]
 pub struct BasisReply {
-    pub modulus: Modulus,
+    pub modulus: u32,
     pub value_bits: u32,
     pub log_basis: u32,
     pub level_count: usize,
@@ -87,7 +86,7 @@ impl Turn {
 
 impl fmt::Display for BasisReply {
     fn fmt<W: fmt::Write>(&self, f: &mut fmt::Formatter<W>) -> fmt::Result {
-        let modulus = u32::from(self.modulus);
+        let modulus = self.modulus;
         write!(f, "basis {modulus} {} {} ", self.value_bits, self.log_basis)?;
         write!(f, "{} {} ", self.level_count, self.drop_bits)?;
         write!(f, "{} {}", self.error_bound, self.threshold)
@@ -119,7 +118,7 @@ fn basis_line(b: ApproxSignedBasis, threshold: u32) -> BasisReply
     let log = b.log_basis();
     let levels = b.level_count();
     BasisReply {
-        modulus: b.modulus(),
+        modulus: u32::from(b.modulus()),
         value_bits: b.value_bits(),
         log_basis: log.get(),
         level_count: levels.get(),
