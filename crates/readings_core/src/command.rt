@@ -84,20 +84,32 @@ impl Turn {
     }
 }
 
+// The words of a line, the spaces and the numbers are written each by itself, a sign with its space: a writer may pass over one that fails.
 impl fmt::Display for BasisReply {
     fn fmt<W: fmt::Write>(&self, f: &mut fmt::Formatter<W>) -> fmt::Result {
-        let modulus = self.modulus;
-        write!(f, "basis {modulus} {} {} ", self.value_bits, self.log_basis)?;
-        write!(f, "{} {} ", self.level_count, self.drop_bits)?;
-        write!(f, "{} {}", self.error_bound, self.threshold)
+        write!(f, "basis")?;
+        write!(f, " {} {}", self.modulus, self.value_bits)?;
+        write!(f, " {} {}", self.log_basis, self.level_count)?;
+        write!(f, " {} {}", self.drop_bits, self.error_bound)?;
+        write!(f, " {}", self.threshold)
     }
+}
+
+fn write_signed<W: fmt::Write>(f: &mut fmt::Formatter<W>, number: i64) -> fmt::Result {
+    if number < 0 {
+        return write!(f, " -{}", number.unsigned_abs());
+    }
+    write!(f, " {number}")
 }
 
 impl fmt::Display for WordReply {
     fn fmt<W: fmt::Write>(&self, f: &mut fmt::Formatter<W>) -> fmt::Result {
-        write!(f, "word {} {} {}", self.word, self.reading, self.error)?;
+        write!(f, "word")?;
+        write!(f, " {}", self.word)?;
+        write_signed(f, self.reading)?;
+        write_signed(f, self.error)?;
         for digit in self.digits.iter().take(self.level_count) {
-            write!(f, " {digit}")?;
+            write_signed(f, *digit)?;
         }
         Ok(())
     }
