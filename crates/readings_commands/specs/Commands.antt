@@ -31,3 +31,20 @@ word_command s xs = pick (leb 4 (length xs)) (word_turn s (word32 xs 0)) (over s
 abbrev pub turn_of : Session → Command → List ℕ → Turn
 turn_of s Basis xs = basis_command s xs
 turn_of s Word xs = word_command s xs
+
+-- the operand bytes of a command; what is no command has none
+abbrev pub operands_by : Result Command Refusal → ℕ
+operands_by (Ok c) = operands c
+operands_by (Err e) = 0
+
+-- the turn of a command; what is none gets 19
+abbrev pub turn_by : Session → Result Command Refusal → List ℕ → Turn
+turn_by s (Ok c) xs = turn_of s c xs
+turn_by s (Err e) xs = over s
+
+-- the same of the byte that asks for it
+abbrev pub byte_operands : ℕ → ℕ
+byte_operands c = operands_by (command_of c)
+
+abbrev pub byte_turn : Session → ℕ → List ℕ → Turn
+byte_turn s c xs = turn_by s (command_of c) xs

@@ -2,7 +2,7 @@
 #![tactic(auto)]
 
 ghost use Rattle.std.specs.Prelude.{◌≡◌, ◌≤◌};
-ghost use Rattle.readings_commands.specs.Commands.{command_of, operands, basis_command, word_command, turn_of};
+ghost use Rattle.readings_commands.specs.Commands.{command_of, operands, basis_command, word_command, turn_of, byte_operands, byte_turn};
 
 use check_order::Refusal;
 use primus_decompose::ApproxSignedBasis;
@@ -52,6 +52,26 @@ impl Command {
             Command::Basis => basis_command(session, operands),
             Command::Word => word_command(session, operands),
         }
+    }
+}
+
+// Bytes of operands, of a command by its byte: what is no command takes none.
+pub fn operand_count(command: u8) -> usize
+    ensures { (result ≡ byte_operands command) × (result ≤ 6) }
+{
+    match Command::try_from(command) {
+        Ok(command) => command.operand_count(),
+        Err(_) => 0,
+    }
+}
+
+// The answer to a command by its byte: what is no command gets 19.
+pub fn answer(session: Session, command: u8, operands: &[u8]) -> Turn
+    ensures { result ≡ byte_turn session command operands.now }
+{
+    match Command::try_from(command) {
+        Ok(command) => command.answer(session, operands),
+        Err(_) => Turn::end(session),
     }
 }
 

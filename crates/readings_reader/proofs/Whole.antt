@@ -11,8 +11,8 @@ use lib.ListN.{length, take, drop, set, length-append, length-set}
 use lib.Seq.{take_all, take-suc-set}
 use borrow.Author.Tests.{le-leb, lt-leb, lt-ltb}
 use Rattle.scheme.specs.Numbers.{pick}
-use Rattle.readings_commands.specs.Commands.{command_of, operands, turn_of}
-use Rattle.readings_reader.specs.Run.{Line, due, operands_by, turn_by, lines_within, lines_of, idle, start, settled_by, begun_by, fed, finished, lines_fed}
+use Rattle.readings_commands.specs.Commands.{command_of, operands, turn_of, operands_by, turn_by}
+use Rattle.readings_reader.specs.Run.{Line, due, lines_within, lines_of, idle, start, settled_by, begun_by, fed, finished, lines_fed}
 use Rattle.std.proofs.Common.{Some, None, Result, Ok, Err}
 use Rattle.readings_core.specs.Program.{Session, over, silent}
 use Rattle.readings_core.specs.declared.command.Turn.{Turn}

@@ -2,7 +2,7 @@
 use Rattle.std.specs.Prelude.{true, false, List, [], ◌∷◌, ◌++◌, ℕ, zero, suc, ◌+◌, leb, ltb, length, take, drop, set, Option, Some, None, Result, Ok, Err}
 use Rattle.scheme.specs.Numbers.{pick}
 use Rattle.readings_core.specs.Program.{Session, over, silent}
-use Rattle.readings_commands.specs.Commands.{command_of, operands, turn_of}
+use Rattle.readings_commands.specs.Commands.{command_of, operands, turn_of, byte_operands, byte_turn}
 use Rattle.check_order.specs.declared.refusal.Refusal.{Refusal}
 use Rattle.readings_core.specs.declared.command.Reply.{Reply}
 use Rattle.readings_core.specs.declared.command.Turn.{Turn}
@@ -20,23 +20,6 @@ said (Some r) = r ∷ []
 
 abbrev pub due : Turn → List Line
 due t = said t.reply
-
--- the operand bytes of a command; what is no command has none
-abbrev pub operands_by : Result Command Refusal → ℕ
-operands_by (Ok c) = operands c
-operands_by (Err e) = 0
-
--- the turn of a command; what is none gets 19
-abbrev pub turn_by : Session → Result Command Refusal → List ℕ → Turn
-turn_by s (Ok c) xs = turn_of s c xs
-turn_by s (Err e) xs = over s
-
--- the same of the byte that asks for it
-abbrev pub byte_operands : ℕ → ℕ
-byte_operands c = operands_by (command_of c)
-
-abbrev pub byte_turn : Session → ℕ → List ℕ → Turn
-byte_turn s c xs = turn_by s (command_of c) xs
 
 -- "Standard input holds commands of one byte", each with the operand bytes that it takes, or that are left;
 -- the run ends with the input, or after 19. n bounds the number of commands.

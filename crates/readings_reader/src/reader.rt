@@ -61,13 +61,18 @@ fn settled(session: Session, command: Command, held: [u8; 6], count: usize) -> R
     }
 }
 
-// The byte of a command; another gets 19 at once.
+// The byte of a command, whose operands are awaited; another takes none, and is answered at once, by 19.
 fn begun(session: Session, held: [u8; 6], byte: u8) -> Reader
     ensures { result ≡ begun_by session held (command_of byte) }
 {
-    match Command::try_from(byte) {
-        Ok(command) => settled(session, command, held, 0),
-        Err(_) => idle(Turn::end(session), held),
+    if readings_commands::operand_count(byte) == 0 {
+        return idle(readings_commands::answer(session, byte, &[]), held);
+    }
+    Reader {
+        turn: Turn::quiet(session, true),
+        command: Command::try_from(byte).ok(),
+        held,
+        count: 0,
     }
 }
 
