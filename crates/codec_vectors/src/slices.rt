@@ -15,23 +15,24 @@ enum Call {
     DecoderAssign,
 }
 
-impl TryFrom<u32> for Call {
-    type Error = u32;
-
-    // Another number is no call.
-    fn try_from(number: u32) -> Result<Call, u32> {
-        Ok(match number {
+impl From<u32> for Call {
+    // A number of no call is taken for one: 0 for the sum of an encoding, and from 8 on for the decoder's last.
+    fn from(number: u32) -> Call {
+        match number {
             1 => Call::EncodeTo,
             2 => Call::EncodeAssign,
-            3 => Call::AddEncodeAssign,
+            0 | 3 => Call::AddEncodeAssign,
             4 => Call::DecodeTo,
             5 => Call::DecodeAssign,
             6 => Call::DecoderTo,
-            7 => Call::DecoderAssign,
-            other => return Err(other),
-        })
+            _ => Call::DecoderAssign,
+        }
     }
 }
+
+// What a record expects where its lengths are above the six words that it has: no call is made.
+// Stays: a number: the record holds it beside those of refusals, and it is compared once.
+const NO_ROOM: u32 = 99;
 
 // Stays: a match of one line a call: each is another call of the library.
 fn called(
@@ -53,9 +54,10 @@ fn called(
     }
 }
 
-// The number of what the call answers on the first words of what is lent and of the buffer, as many as the record says.
+// The number of what the call answers on the first words of what is lent and of the buffer, as many as the record says; none
+// where there are fewer.
 fn answer(codec: RoundedCodec, r: &[u8], lent: &[u32], buffer: &mut [u32]) -> Option<u32> {
-    let call = Call::try_from(little_endian::u8_at(r, 9)).ok()?;
+    let call = Call::from(little_endian::u8_at(r, 9));
     let lent = lent.get(..little_endian::u8_at(r, 11) as usize)?;
     let buffer = buffer.get_mut(..little_endian::u8_at(r, 12) as usize)?;
     // Stays: a number, 0 for none: the record holds it so, and it is compared once.
@@ -69,6 +71,6 @@ pub(crate) fn right(r: &[u8]) -> bool {
     };
     let lent = bytes::six(r, 14);
     let mut buffer = bytes::six(r, 38);
-    let answered = answer(codec, r, &lent, &mut buffer);
-    answered == Some(little_endian::u8_at(r, 13)) && buffer == bytes::six(r, 62)
+    let answered = answer(codec, r, &lent, &mut buffer).unwrap_or(NO_ROOM);
+    answered == little_endian::u8_at(r, 13) && buffer == bytes::six(r, 62)
 }
