@@ -1,6 +1,6 @@
 // What a record tells of: one call each, in the order of the numbers from 1 that the file gives them.
 
-use crate::record::Record;
+use crate::record::{Record, WORDED};
 use lwe_secret_key::LweSecretKeyRef;
 
 // A secret key of words, or of signed numbers.
@@ -12,10 +12,10 @@ pub(crate) enum Form {
 
 impl Form {
     // The key of a record: words a or signed numbers d.
-    pub(crate) fn key(self, record: &Record) -> LweSecretKeyRef<'_> {
+    pub(crate) fn key<'a>(self, record: &Record<'a>) -> LweSecretKeyRef<'a> {
         match self {
-            Form::Encoded => LweSecretKeyRef::Encoded(&record.a),
-            Form::Signed => LweSecretKeyRef::Signed(&record.d),
+            Form::Encoded => LweSecretKeyRef::Encoded(record.a),
+            Form::Signed => LweSecretKeyRef::Signed(record.d),
         }
     }
 }
@@ -95,5 +95,30 @@ impl TryFrom<u32> for Kind {
             35 => Kind::Total(Form::Signed),
             other => return Err(other),
         })
+    }
+}
+
+impl Kind {
+    // Its call is lent errors, which may be words.
+    fn takes_errors(self) -> bool {
+        matches!(
+            self,
+            Kind::EncryptEncoded(_)
+                | Kind::EncryptMessage(_)
+                | Kind::PackEncoded
+                | Kind::PackMessages
+                | Kind::EncryptBatch
+                | Kind::PublicKey(_)
+                | Kind::PublicEncoded
+                | Kind::PublicMessage
+                | Kind::SwitchingKey(_)
+                | Kind::Total(_)
+        )
+    }
+
+    // The kind of a number, the same for either form of the errors; none for a number that names no kind.
+    pub(crate) fn named(number: u32) -> Option<Kind> {
+        let kind = Kind::try_from(number % WORDED).ok()?;
+        (number < WORDED || kind.takes_errors()).then_some(kind)
     }
 }

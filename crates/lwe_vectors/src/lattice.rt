@@ -37,7 +37,7 @@ pub(crate) fn parameters(h: Head) -> Said {
 
 // What a tag says of itself.
 pub(crate) fn saved(r: &Record) -> Said {
-    said::written(Ok(tags::lent(&r.c, 0)), tags::expected(&r.c, 1, 0))
+    said::written(Ok(tags::lent(r.c, 0)), tags::expected(r.c, 1, 0))
 }
 
 // The tags alone, beside two ciphertexts of zeros.
@@ -45,21 +45,21 @@ pub(crate) fn tally_sum(r: &Record) -> Said {
     let dimension = LweDimension::given(1);
     let mut zeros = [0; 2];
     let others = [0; 2];
-    let (x, y) = (tags::lent(&r.c, 0), tags::lent(&r.c, 1));
+    let (x, y) = (tags::lent(r.c, 0), tags::lent(r.c, 1));
     let answer = primus_lattice::add_assign(Modulus::Native, dimension, &mut zeros, x, &others, y);
-    said::written(answer, tags::expected(&r.c, 2, 0))
+    said::written(answer, tags::expected(r.c, 2, 0))
 }
 
 pub(crate) fn mark(r: &Record) -> Said {
-    said::holds(tags::lent(&r.c, 0).is_good(r.head.modulus, r.head.t))
+    said::holds(tags::lent(r.c, 0).is_good(r.head.modulus, r.head.t))
 }
 
 // A sum of the buffer and b, with their tags.
 pub(crate) fn sum(r: &Record, out: &mut [u32]) -> Said {
     let dimension = LweDimension::given(r.head.n);
-    let (x, y) = (tags::lent(&r.c, 0), tags::lent(&r.c, 1));
-    let answer = primus_lattice::add_assign(r.head.modulus, dimension, out, x, &r.b, y);
-    said::written(answer, tags::expected(&r.c, 2, 0))
+    let (x, y) = (tags::lent(r.c, 0), tags::lent(r.c, 1));
+    let answer = primus_lattice::add_assign(r.head.modulus, dimension, out, x, r.b, y);
+    said::written(answer, tags::expected(r.c, 2, 0))
 }
 
 // The sample of the body whose index is the record's value, of the ciphertext b.
@@ -67,7 +67,7 @@ pub(crate) fn sample(r: &Record, out: &mut [u32]) -> Said {
     let h = r.head;
     let dimension = LweDimension::given(h.n);
     let index = h.value as usize;
-    let tag = tags::lent(&r.c, 0);
-    let answer = lwe_samples::extract_lwe_at(h.modulus, dimension, &r.b, tag, index, out);
-    said::written(answer, tags::expected(&r.c, 1, 0))
+    let tag = tags::lent(r.c, 0);
+    let answer = lwe_samples::extract_lwe_at(h.modulus, dimension, r.b, tag, index, out);
+    said::written(answer, tags::expected(r.c, 1, 0))
 }

@@ -13,11 +13,9 @@ mod tags;
 mod total;
 
 use kind::Kind;
-use record::{Head, Record};
+use record::{Head, Record, Room};
 use said::Said;
-use std::alloc::Global;
-use std::io;
-use std::io::{BufReader, ErrorKind, Read};
+use std::io::Read;
 use std::rt::Files;
 
 // The call of a record, which writes to `out`.
@@ -55,15 +53,18 @@ fn call(kind: Kind, r: &Record, out: &mut [u32]) -> Said {
     }
 }
 
-// The call said what the record says, and left its buffer so.
-fn agrees(record: &Record) -> io::Result<bool> {
-    let head = record.head;
-    let mut out = record.before.clone()?;
-    let said = match Kind::try_from(head.call()) {
-        Ok(kind) => call(kind, record, &mut out),
-        Err(_) => switch::unnamed(head),
+// The call of the record in the rooms said what the record says, and left its buffer so.
+fn agrees(head: Head, room: &mut Room) -> bool {
+    let record = Record::of(head, &room.words, &room.numbers);
+    let Some(out) = room.out.get_mut(..record.before.len()) else {
+        return false;
     };
-    Ok(said::agrees(said, head) && out == record.after)
+    out.copy_from_slice(record.before);
+    let said = match Kind::named(head.kind) {
+        Some(kind) => call(kind, &record, out),
+        None => switch::unnamed(head),
+    };
+    said::agrees(said, head) && *out == *record.after
 }
 
 // What comes next in a file.
@@ -74,27 +75,19 @@ enum Outcome {
     End,
 }
 
-// A record that breaks off, or has more words than there is room for, differs; only memory can end the program.
-// Stays: kind 0 for a head that is not there, no Option: it is printed so; and alloc beside input: a struct of them would be made for each file.
-fn turn(alloc: Global, input: &mut impl Read) -> io::Result<Outcome> {
+// A record that breaks off, or has more words than there is room for, differs.
+// Stays: kind 0 for a head that is not there, no Option: it is printed so.
+fn turn(input: &mut impl Read, room: &mut Room) -> Outcome {
     let Some(head) = Head::read(input) else {
-        return Ok(Outcome::Differs(0));
+        return Outcome::Differs(0);
     };
     if head.kind == 0 {
-        return Ok(Outcome::End);
+        return Outcome::End;
     }
-    if !head.fits() {
-        return Ok(Outcome::Differs(head.kind));
-    }
-    let record = match Record::read(alloc, input, head) {
-        Ok(record) => record,
-        Err(e) if e.kind() == ErrorKind::OutOfMemory => return Err(e),
-        Err(_) => return Ok(Outcome::Differs(head.kind)),
-    };
-    if agrees(&record)? {
-        Ok(Outcome::Equal(head.kind))
+    if head.fits() && room.fill(input, head.size()) && agrees(head, room) {
+        Outcome::Equal(head.kind)
     } else {
-        Ok(Outcome::Differs(head.kind))
+        Outcome::Differs(head.kind)
     }
 }
 
@@ -102,18 +95,13 @@ fn turn(alloc: Global, input: &mut impl Read) -> io::Result<Outcome> {
 type Counts = [u32; 256];
 
 // Compares records up to the first that differs; the answer is whether all are equal.
-fn all(
-    rt: &impl Print,
-    alloc: Global,
-    input: &mut impl Read,
-    counts: &mut Counts,
-) -> io::Result<bool> {
+fn all(rt: &impl Print, input: &mut impl Read, room: &mut Room, counts: &mut Counts) -> bool {
     for number in 0..u32::MAX {
-        match turn(alloc, input)? {
-            Outcome::End => return Ok(true),
+        match turn(input, room) {
+            Outcome::End => return true,
             Outcome::Differs(kind) => {
                 let _ = println!(rt; "first that differs: record {number}\nof kind {kind}");
-                return Ok(false);
+                return false;
             }
             Outcome::Equal(kind) => {
                 if let Some(count) = counts.get_mut(kind as usize) {
@@ -122,35 +110,40 @@ fn all(
             }
         }
     }
-    Ok(false)
+    false
 }
 
 // Every record of a file is equal.
 fn file(
     rt: &(impl Files + Print + Eprint),
-    alloc: Global,
     name: &str,
+    room: &mut Room,
     counts: &mut Counts,
-) -> io::Result<bool> {
+) -> bool {
     match programs::open_named(rt, name) {
-        Some(file) => all(rt, alloc, &mut BufReader::new(alloc, file)?, counts),
-        None => Ok(false),
+        Some(mut file) => all(rt, &mut file, room, counts),
+        None => false,
     }
 }
 
-fn main(rt: HostRuntime) -> io::Result<()> {
-    let alloc = rt.alloc();
-    let mut counts = [0; 256];
-    let encryption = file(&rt, alloc, "lwe.bin", &mut counts)?;
-    let switching = file(&rt, alloc, "switch.bin", &mut counts)?;
-    let rust = file(&rt, alloc, "oracle.bin", &mut counts)?;
+// The kinds from 1 to 32, and the others that have a name and a record.
+fn print(rt: &impl Print, counts: &Counts) {
     for (kind, count) in counts.iter().enumerate() {
-        if *count != 0 {
+        let told = *count != 0 && Kind::named(kind as u32).is_some();
+        if told || (1..33).contains(&kind) {
             let _ = println!(rt; "kind {kind}: {count}");
         }
     }
+}
+
+fn main(rt: HostRuntime) {
+    let mut room = Room::new();
+    let mut counts = [0; 256];
+    let encryption = file(&rt, "lwe.bin", &mut room, &mut counts);
+    let switching = file(&rt, "switch.bin", &mut room, &mut counts);
+    let rust = file(&rt, "oracle.bin", &mut room, &mut counts);
+    print(&rt, &counts);
     if encryption && switching && rust {
         let _ = println!(rt; "all equal");
     }
-    Ok(())
 }

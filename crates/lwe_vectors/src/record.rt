@@ -1,5 +1,4 @@
 // A record: the head, and the words that follow it.
-use crate::tags;
 use lwe_errors::LweErrorsRef;
 use lwe_parameters::{
     LweDecryptionParameters, LweEncryptionParameters, LweParameters, LwePhaseParameters,
@@ -7,8 +6,6 @@ use lwe_parameters::{
 use primus_encoding::PlaintextEmbedding;
 use primus_lattice::LweDimension;
 use primus_reduce::Modulus;
-use std::alloc::Global;
-use std::io;
 use std::io::Read;
 
 const HEAD: usize = 60;
@@ -20,8 +17,10 @@ const NUMBERS: usize = 2048;
 
 const ALL: usize = 16384;
 
+const BYTES: usize = 65536;
+
 // What the number of a kind has more where the errors are words.
-const WORDED: u32 = 128;
+pub(crate) const WORDED: u32 = 128;
 
 #[derive(Clone, Copy)]
 pub(crate) struct Head {
@@ -55,56 +54,65 @@ struct Lengths {
     out: usize,
 }
 
-// Errors of either form.
+// Rooms for what follows one head after another: its bytes, each four of them as a word and as the signed number of the same bits, and
+// the buffer of its call.
+// Stays: rooms beside each other: each is a run of another type, and each record fills them anew.
 #[derive(Drop)]
-pub(crate) enum Errors {
-    Encoded(Vec<u32>),
-    Signed(Vec<i32>),
+pub(crate) struct Room {
+    bytes: [u8; BYTES],
+    pub(crate) words: [u32; ALL],
+    pub(crate) numbers: [i32; ALL],
+    pub(crate) out: [u32; WORDS],
 }
 
-impl Errors {
-    // Those of a record, in the form that the number of its kind says.
-    fn read(alloc: Global, input: &mut impl Read, head: Head) -> io::Result<Errors> {
-        let count = head.lengths.e;
-        if head.kind < WORDED {
-            Ok(Errors::Signed(numbers(alloc, input, count)?))
-        } else {
-            Ok(Errors::Encoded(words(alloc, input, count)?))
+impl Room {
+    pub(crate) fn new() -> Room {
+        Room {
+            bytes: [0; BYTES],
+            words: [0; ALL],
+            numbers: [0; ALL],
+            out: [0; WORDS],
         }
     }
 
-    pub(crate) fn lent(&self) -> LweErrorsRef<'_> {
-        match self {
-            Errors::Encoded(words) => LweErrorsRef::Encoded(words),
-            Errors::Signed(numbers) => LweErrorsRef::Signed(numbers),
+    // The next words of the input, read at once; the answer is whether they are there.
+    pub(crate) fn fill(&mut self, input: &mut impl Read, count: usize) -> bool {
+        let Some(bytes) = self.bytes.get_mut(..count.saturating_mul(4)) else {
+            return false;
+        };
+        if programs::read_full(input, bytes) < bytes.len() {
+            return false;
         }
-    }
-
-    // The error at a place, alone.
-    pub(crate) fn lent_at(&self, i: usize) -> LweErrorsRef<'_> {
-        match self {
-            Errors::Encoded(words) => LweErrorsRef::Encoded(tags::part(words, i, 1)),
-            Errors::Signed(numbers) => LweErrorsRef::Signed(one(numbers, i)),
+        let places = self.words.iter_mut().zip(self.numbers.iter_mut());
+        for ((word, number), four) in places.zip(bytes.chunks_exact(4)) {
+            *word = little_endian::u32_at(four, 0);
+            *number = word.cast_signed();
         }
+        true
     }
-}
-
-// The number at a place, alone; none past the end.
-fn one(numbers: &[i32], i: usize) -> &[i32] {
-    numbers.get(i..i.wrapping_add(1)).unwrap_or(&[])
 }
 
 // What a call is lent, and its buffer before and after it.
-#[derive(Drop)]
-pub(crate) struct Record {
+#[derive(Clone, Copy)]
+pub(crate) struct Record<'a> {
     pub(crate) head: Head,
-    pub(crate) a: Vec<u32>,
-    pub(crate) b: Vec<u32>,
-    pub(crate) c: Vec<u32>,
-    pub(crate) d: Vec<i32>,
-    pub(crate) e: Errors,
-    pub(crate) before: Vec<u32>,
-    pub(crate) after: Vec<u32>,
+    pub(crate) a: &'a [u32],
+    pub(crate) b: &'a [u32],
+    pub(crate) c: &'a [u32],
+    pub(crate) d: &'a [i32],
+    // Errors in the form that the number of its kind says.
+    pub(crate) e: LweErrorsRef<'a>,
+    pub(crate) before: &'a [u32],
+    pub(crate) after: &'a [u32],
+}
+
+// An operand; none past the end.
+fn words(room: &[u32], start: usize, count: usize) -> &[u32] {
+    room.get(start..start.wrapping_add(count)).unwrap_or(&[])
+}
+
+fn numbers(room: &[i32], start: usize, count: usize) -> &[i32] {
+    room.get(start..start.wrapping_add(count)).unwrap_or(&[])
 }
 
 // Two bytes. Stays: a remainder of the four that little_endian reads: a `u16_at` would be a step with a law, for one program.
@@ -138,11 +146,6 @@ impl Head {
         }
     }
 
-    // The number of its call, the same for either form of the errors.
-    pub(crate) fn call(self) -> u32 {
-        self.kind % WORDED
-    }
-
     // The parameters, which no try_new has judged: each call judges them by itself.
     pub(crate) fn parameters(self) -> LweParameters {
         LweParameters {
@@ -174,55 +177,56 @@ impl Head {
         Some(Head::of(&bytes))
     }
 
+    // How many words follow it. A refused call leaves its buffer: the words after it are those before it.
+    pub(crate) fn size(self) -> usize {
+        let l = self.lengths;
+        let written = if self.refusal == 0 { l.out } else { 0 };
+        [l.a, l.b, l.c, l.d, l.e, l.out, written]
+            .iter()
+            .fold(0, |sum: usize, count| sum.saturating_add(*count))
+    }
+
     // There is room for every operand, and for the whole record.
     pub(crate) fn fits(self) -> bool {
         let l = self.lengths;
-        let written = if self.refusal == 0 { l.out } else { 0 };
-        l.a.max(l.b).max(l.c).max(l.out) <= WORDS
-            && l.d.max(l.e) <= NUMBERS
-            && l.a + l.b + l.c + l.d + l.e + l.out + written <= ALL
+        l.a.max(l.b).max(l.c).max(l.out) <= WORDS && l.d.max(l.e) <= NUMBERS && self.size() <= ALL
     }
 }
 
-fn words(alloc: Global, input: &mut impl Read, count: usize) -> io::Result<Vec<u32>> {
-    let mut words = Vec::with_capacity(alloc, count)?;
-    for _ in 0..count {
-        let mut word = [0; 4];
-        input.read_exact(&mut word)?;
-        words.push(u32::from_le_bytes(word))?;
-    }
-    Ok(words)
-}
-
-// Each word as the signed number of the same bits.
-fn numbers(alloc: Global, input: &mut impl Read, count: usize) -> io::Result<Vec<i32>> {
-    let words = words(alloc, input, count)?;
-    Ok(words.iter().map(|w| w.cast_signed()).collect(alloc)?)
-}
-
-impl Record {
-    // The words of a head. A refused call leaves its buffer: the words after it are those before it.
-    pub(crate) fn read(alloc: Global, input: &mut impl Read, head: Head) -> io::Result<Record> {
-        let lengths = head.lengths;
-        let a = words(alloc, input, lengths.a)?;
-        let b = words(alloc, input, lengths.b)?;
-        let c = words(alloc, input, lengths.c)?;
-        let d = numbers(alloc, input, lengths.d)?;
-        let e = Errors::read(alloc, input, head)?;
-        let before = words(alloc, input, lengths.out)?;
+impl<'a> Record<'a> {
+    // The operands stand one after the other.
+    pub(crate) fn of(head: Head, room: &'a [u32], signed: &'a [i32]) -> Record<'a> {
+        let l = head.lengths;
+        let b = l.a;
+        let c = b.wrapping_add(l.b);
+        let d = c.wrapping_add(l.c);
+        let e = d.wrapping_add(l.d);
+        let before = e.wrapping_add(l.e);
         let after = match head.refusal {
-            0 => words(alloc, input, lengths.out)?,
-            _ => before.clone()?,
+            0 => before.wrapping_add(l.out),
+            _ => before,
         };
-        Ok(Record {
+        Record {
             head,
-            a,
-            b,
-            c,
-            d,
-            e,
-            before,
-            after,
-        })
+            a: words(room, 0, l.a),
+            b: words(room, b, l.b),
+            c: words(room, c, l.c),
+            d: numbers(signed, d, l.d),
+            e: if head.kind < WORDED {
+                LweErrorsRef::Signed(numbers(signed, e, l.e))
+            } else {
+                LweErrorsRef::Encoded(words(room, e, l.e))
+            },
+            before: words(room, before, l.out),
+            after: words(room, after, l.out),
+        }
+    }
+
+    // The error at a place, alone; none past the end.
+    pub(crate) fn error_at(&self, i: usize) -> LweErrorsRef<'a> {
+        match self.e {
+            LweErrorsRef::Encoded(errors) => LweErrorsRef::Encoded(words(errors, i, 1)),
+            LweErrorsRef::Signed(errors) => LweErrorsRef::Signed(numbers(errors, i, 1)),
+        }
     }
 }

@@ -10,7 +10,7 @@ pub(crate) fn encrypt_encoded(r: &Record, form: Form, out: &mut [u32]) -> Said {
     let h = r.head;
     let key = form.key(r);
     let params = h.encryption_parameters();
-    let answer = primus_lwe::encrypt_encoded_to(params, key, &r.b, r.e.lent(), h.value, out);
+    let answer = primus_lwe::encrypt_encoded_to(params, key, r.b, r.e, h.value, out);
     said::written(answer, said::fresh(h))
 }
 
@@ -19,29 +19,28 @@ pub(crate) fn encrypt_message(r: &Record, form: Form, out: &mut [u32]) -> Said {
     let key = form.key(r);
     let params = h.parameters();
     let embedding = h.embedding;
-    let errors = r.e.lent();
-    let answer = primus_lwe::encrypt_message_to(params, embedding, key, &r.b, errors, h.value, out);
+    let answer = primus_lwe::encrypt_message_to(params, embedding, key, r.b, r.e, h.value, out);
     said::written(answer, said::fresh(h))
 }
 
 pub(crate) fn phase(r: &Record, form: Form) -> Said {
-    Some(primus_lwe::decrypt_phase(r.head.phase_parameters(), form.key(r), &r.b))
+    Some(primus_lwe::decrypt_phase(r.head.phase_parameters(), form.key(r), r.b))
 }
 
 pub(crate) fn decrypt_message(r: &Record, form: Form) -> Said {
-    Some(primus_lwe::decrypt_message(r.head.decryption_parameters(), form.key(r), &r.b))
+    Some(primus_lwe::decrypt_message(r.head.decryption_parameters(), form.key(r), r.b))
 }
 
 // A public key from a secret: masks b, errors e.
 pub(crate) fn public_key(r: &Record, form: Form, out: &mut [u32]) -> Said {
     let params = r.head.encryption_parameters();
-    said::done(LwePublicKey::generate(params, form.key(r), &r.b, r.e.lent(), out))
+    said::done(LwePublicKey::generate(params, form.key(r), r.b, r.e, out))
 }
 
 pub(crate) fn public_encoded(r: &Record, out: &mut [u32]) -> Said {
     let h = r.head;
     let params = h.encryption_parameters();
-    let answer = LwePublicKey::encrypt_encoded_to(params, &r.a, r.e.lent(), &r.d, h.value, out);
+    let answer = LwePublicKey::encrypt_encoded_to(params, r.a, r.e, r.d, h.value, out);
     said::written(answer, said::untallied())
 }
 
@@ -49,9 +48,6 @@ pub(crate) fn public_message(r: &Record, out: &mut [u32]) -> Said {
     let h = r.head;
     let params = h.parameters();
     let embedding = h.embedding;
-    let errors = r.e.lent();
-    let answer = LwePublicKey::encrypt_message_to(
-        params, embedding, &r.a, errors, &r.d, h.value, out,
-    );
+    let answer = LwePublicKey::encrypt_message_to(params, embedding, r.a, r.e, r.d, h.value, out);
     said::written(answer, said::untallied())
 }

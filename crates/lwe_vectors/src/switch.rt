@@ -58,15 +58,7 @@ pub(crate) fn parameters(h: Head) -> Said {
 fn generated(r: &Record, form: Form, out: &mut [u32]) -> Result<(), Refusal> {
     let h = r.head;
     let secret = form.key(r);
-    LweKeySwitchingKey::generate(
-        parameters_of(h)?,
-        h.error_limit,
-        secret,
-        &r.c,
-        &r.b,
-        r.e.lent(),
-        out,
-    )
+    LweKeySwitchingKey::generate(parameters_of(h)?, h.error_limit, secret, r.c, r.b, r.e, out)
 }
 
 pub(crate) fn key(r: &Record, form: Form, out: &mut [u32]) -> Said {
@@ -75,16 +67,16 @@ pub(crate) fn key(r: &Record, form: Form, out: &mut [u32]) -> Said {
 
 // A switch: key a, input b.
 fn switched(r: &Record, out: &mut [u32]) -> Result<LweTag, Refusal> {
-    key_switch_to(parameters_of(r.head)?, &r.a, &r.b, tags::lent(&r.c, 0), out)
+    key_switch_to(parameters_of(r.head)?, r.a, r.b, tags::lent(r.c, 0), out)
 }
 
 pub(crate) fn single(r: &Record, out: &mut [u32]) -> Said {
-    said::written(switched(r, out), tags::expected(&r.c, 1, 0))
+    said::written(switched(r, out), tags::expected(r.c, 1, 0))
 }
 
 // Stays beside `switched` and `single`: another call of the library, as in packed.
 fn switched_batch(r: &Record, tags: &mut [LweTag], out: &mut [u32]) -> Result<(), Refusal> {
-    key_switch_batch_to(parameters_of(r.head)?, &r.a, &r.b, tags, out)
+    key_switch_batch_to(parameters_of(r.head)?, r.a, r.b, tags, out)
 }
 
 pub(crate) fn batch(r: &Record, out: &mut [u32]) -> Said {
@@ -117,8 +109,8 @@ pub(crate) fn entry(r: &Record, out: &mut [u32]) -> Said {
     let (i, j) = (h.value as usize, h.t as usize);
     match parameters_of(h) {
         Ok(params) => {
-            let answer = LweKeySwitchingKey::entry(params, &r.a, i, j);
-            let part = LweKeySwitchingKey::entry_words(params, &r.a, i, j);
+            let answer = LweKeySwitchingKey::entry(params, r.a, i, j);
+            let part = LweKeySwitchingKey::entry_words(params, r.a, i, j);
             placed(answer, part, out)
         }
         Err(refusal) => Some(Err(refusal)),

@@ -69,7 +69,7 @@ pub(crate) fn lend<'a>(r: &Record, room: &'a mut [LweTag]) -> &'a mut [LweTag] {
     let count = room.len().min(r.head.value as usize);
     let tags = &mut room[..count];
     for (i, tag) in tags.iter_mut().enumerate() {
-        *tag = lent(&r.c, i);
+        *tag = lent(r.c, i);
     }
     tags
 }
@@ -79,9 +79,9 @@ pub(crate) fn left(r: &Record, tags: &[LweTag]) -> bool {
     let served = r.head.refusal == 0;
     tags.iter().enumerate().all(|(i, tag)| {
         if served {
-            Carried::from(*tag) == expected(&r.c, tags.len(), i)
+            Carried::from(*tag) == expected(r.c, tags.len(), i)
         } else {
-            *tag == lent(&r.c, i)
+            *tag == lent(r.c, i)
         }
     })
 }

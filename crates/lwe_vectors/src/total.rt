@@ -31,15 +31,15 @@ fn embedding(number: u32) -> PlaintextEmbedding {
 
 fn encrypt(r: &Record, form: Form, i: usize, out: &mut [u32]) -> Result<LweTag, Refusal> {
     let n = r.head.n;
-    let numbers = tags::part(&r.c, i, 3);
+    let numbers = tags::part(r.c, i, 3);
     let mut params = r.head.parameters();
     params.error_limit = tags::word(numbers, 0);
     primus_lwe::encrypt_message_to(
         params,
         embedding(tags::word(numbers, 1)),
         form.key(r),
-        tags::part(&r.b, i, n),
-        r.e.lent_at(i),
+        tags::part(r.b, i, n),
+        r.error_at(i),
         tags::word(numbers, 2),
         place(out, i, n.wrapping_add(1)),
     )
@@ -116,7 +116,7 @@ fn opened(
 ) -> Result<Option<u32>, Refusal> {
     let h = r.head;
     encrypt_each(r, form, tags, out)?;
-    let rest = tags::from(&r.c, tags.len().wrapping_mul(3));
+    let rest = tags::from(r.c, tags.len().wrapping_mul(3));
     let additions = tags::part(rest, 0, h.m.wrapping_mul(2));
     add_each(r, additions, tags, out)?;
     let tag = tag_at(tags, 0);
