@@ -1,20 +1,20 @@
 // Runs the program on each stored input, run01 to run40, as scripts/readings_runs.py made them.
 #![tactic(auto)]
 
-use std::alloc::AllocError;
+use arrayvec::ArrayString;
+use std::fmt::Write;
 
-fn replay(rt: &HostRuntime, n: u32) -> Result<(), AllocError> {
-    let name = format!(in rt.alloc(); "run{n:02}")?;
+fn replay(rt: &HostRuntime, n: u32) {
+    let mut name = ArrayString::<16>::new();
+    let _ = write!(name, "run{n:02}");
     let _ = println!(rt; "run {n:02}");
-    if let Some(mut file) = programs::open_named(rt, &name) {
+    if let Some(mut file) = programs::open_named(rt, name.as_str()) {
         readings_files::run(&mut file, &mut rt.stdout());
     }
-    Ok(())
 }
 
-fn main(rt: HostRuntime) -> Result<(), AllocError> {
+fn main(rt: HostRuntime) {
     for n in 1..41 {
-        replay(&rt, n)?;
+        replay(&rt, n);
     }
-    Ok(())
 }

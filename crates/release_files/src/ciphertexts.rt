@@ -7,7 +7,6 @@ use primus_lwe_batch::decrypt_message_batch_to;
 use primus_lwe_packed::decrypt_message_packed;
 use saved_files::{Loaded, SavedWord};
 use saved_head::{Head, Kind};
-use std::alloc::AllocError;
 
 // What stands where no message could be opened: it differs from every message.
 // Stays: no Option: the calls write words into the room, and a message is below t, so never 2^32 − 1.
@@ -70,34 +69,22 @@ fn told_verdict(
 }
 
 // The line of a file whose messages are in `out`: they are compared with those saved beside it.
-fn tell(
-    folder: Folder,
-    name: &str,
-    l: Loaded<u32>,
-    opening: Result<(), Fault>,
-    out: &[u32],
-) -> Result<(), AllocError> {
+fn tell(folder: Folder, name: &str, l: Loaded<u32>, opening: Result<(), Fault>, out: &[u32]) {
     let mut told = [0u32; 8192];
-    let beside = folder.load(name, ".opens", &mut told)?;
+    let beside = folder.load(name, ".opens", &mut told);
     folder.begin(name, l);
     let _ = print!(folder.rt; "{} messages, checksum {}: ", l.head.count, beside.checksum);
     folder.end("as saved", told_verdict(l, beside, opening, out));
-    Ok(())
 }
 
 // A file opened under a secret, which is read into the room for its words.
-pub(crate) fn opened<W: SecretWord>(
-    folder: Folder,
-    name: &str,
-    secret: &str,
-    key: &mut [W],
-) -> Result<(), AllocError> {
+pub(crate) fn opened<W: SecretWord>(folder: Folder, name: &str, secret: &str, key: &mut [W]) {
     let mut words = [0u32; 8192];
     let mut room = [0u32; 8192];
-    let k = folder.load(secret, "", key)?;
-    let l = folder.load(name, "", &mut words)?;
+    let k = folder.load(secret, "", key);
+    let l = folder.load(name, "", &mut words);
     let count = room.len().min(l.head.count as usize);
     let out = &mut room[..count];
     let opening = W::open(l, k, out);
-    tell(folder, name, l, opening, out)
+    tell(folder, name, l, opening, out);
 }

@@ -1,10 +1,11 @@
 // The files of a release, and the line that the program writes about each.
+use arrayvec::ArrayString;
 use check_order::Refusal;
 use primus_lattice::LweTag;
 use saved_files::{Loaded, SavedWord, TAGS};
 use saved_head::{Head, Kind};
-use std::alloc::AllocError;
 use std::fmt;
+use std::fmt::Write;
 
 // What is wrong with a file: a call refuses it, or it is not as saved.
 #[derive(Clone, Copy)]
@@ -54,15 +55,16 @@ pub(crate) struct Folder<'a> {
 }
 
 impl Folder<'_> {
-    // A file with its words.
+    // A file with its words. A path of the program has 64 bytes at most.
     pub(crate) fn load<'w, W: SavedWord>(
         self,
         name: &str,
         suffix: &str,
         words: &'w mut [W],
-    ) -> Result<Loaded<'w, W>, AllocError> {
-        let path = format!(in self.rt.alloc(); "{}{name}{suffix}", self.path)?;
-        Ok(saved_files::load(self.rt, path.as_str(), words))
+    ) -> Loaded<'w, W> {
+        let mut path = ArrayString::<64>::new();
+        let _ = write!(path, "{}{name}{suffix}", self.path);
+        saved_files::load(self.rt, path.as_str(), words)
     }
 
     // ", tally 3, c 1 (good)"; a refusal by its number alone, as at the end of a line.

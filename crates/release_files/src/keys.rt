@@ -8,7 +8,6 @@ use primus_lwe::LwePhaseParameters;
 use primus_lwe_batch::decrypt_phase_batch_to;
 use saved_files::{Loaded, SavedWord, TAGS};
 use saved_head::{Head, Kind};
-use std::alloc::AllocError;
 
 fn secret_verdict<W: SavedWord>(l: Loaded<W>, kind: Kind) -> Result<(), Fault> {
     l.refusal?;
@@ -26,11 +25,10 @@ pub(crate) fn secret<W: SavedWord>(
     kind: Kind,
     good: &str,
     room: &mut [W],
-) -> Result<(), AllocError> {
-    let l = folder.load(name, "", room)?;
+) {
+    let l = folder.load(name, "", room);
     folder.begin(name, l);
     folder.end(good, secret_verdict(l, kind));
-    Ok(())
 }
 
 // A phase within ±E of 0, modulo q.
@@ -61,14 +59,13 @@ fn public_verdict(key: Loaded<u32>, secret: Loaded<u32>) -> Result<(), Fault> {
     Ok(())
 }
 
-pub(crate) fn public_key(folder: Folder, name: &str, secret: &str) -> Result<(), AllocError> {
+pub(crate) fn public_key(folder: Folder, name: &str, secret: &str) {
     let mut words = [0u32; 8192];
     let mut key = [0u32; 8192];
-    let s = folder.load(secret, "", &mut words)?;
-    let l = folder.load(name, "", &mut key)?;
+    let s = folder.load(secret, "", &mut words);
+    let l = folder.load(name, "", &mut key);
     folder.begin(name, l);
     folder.end("rows that open to 0", public_verdict(l, s));
-    Ok(())
 }
 
 // The key switches the saved input to the saved output, word for word, and tag for tag.
@@ -87,19 +84,13 @@ fn switch_verdict(key: Loaded<u32>, input: Loaded<u32>, output: Loaded<u32>) -> 
     agrees(h.kind == Kind::SwitchingKey)
 }
 
-pub(crate) fn switching_key(
-    folder: Folder,
-    name: &str,
-    from: &str,
-    to: &str,
-) -> Result<(), AllocError> {
+pub(crate) fn switching_key(folder: Folder, name: &str, from: &str, to: &str) {
     let mut key = [0u32; 8192];
     let mut input = [0u32; 8192];
     let mut output = [0u32; 8192];
-    let l = folder.load(name, "", &mut key)?;
-    let x = folder.load(from, "", &mut input)?;
-    let y = folder.load(to, "", &mut output)?;
+    let l = folder.load(name, "", &mut key);
+    let x = folder.load(from, "", &mut input);
+    let y = folder.load(to, "", &mut output);
     folder.begin(name, l);
     folder.end("switches as saved", switch_verdict(l, x, y));
-    Ok(())
 }

@@ -8,10 +8,9 @@ mod keys;
 
 use files::Folder;
 use saved_head::Kind;
-use std::alloc::AllocError;
 
 // The keys. Each is tried on what it was made for.
-fn tried(folder: Folder) -> Result<(), AllocError> {
+fn tried(folder: Folder) {
     let mut words = [0u32; 8192];
     let mut numbers = [0i32; 2048];
     for name in ["secret", "group_secret"] {
@@ -21,7 +20,7 @@ fn tried(folder: Folder) -> Result<(), AllocError> {
             Kind::SecretKey,
             "a secret key of words",
             &mut words,
-        )?;
+        );
     }
     keys::secret(
         folder,
@@ -29,50 +28,49 @@ fn tried(folder: Folder) -> Result<(), AllocError> {
         Kind::SignedSecretKey,
         "a secret key of signed numbers",
         &mut numbers,
-    )?;
-    keys::public_key(folder, "public_key", "secret")
+    );
+    keys::public_key(folder, "public_key", "secret");
 }
 
-fn opened(folder: Folder) -> Result<(), AllocError> {
+fn opened(folder: Folder) {
     let mut words = [0u32; 8192];
     let mut numbers = [0i32; 2048];
     for name in ["fresh", "summed", "packed", "public"] {
-        ciphertexts::opened(folder, name, "secret", &mut words)?;
+        ciphertexts::opened(folder, name, "secret", &mut words);
     }
-    ciphertexts::opened(folder, "signed_fresh", "signed_secret", &mut numbers)
+    ciphertexts::opened(folder, "signed_fresh", "signed_secret", &mut numbers);
 }
 
-fn switched(folder: Folder) -> Result<(), AllocError> {
-    keys::switching_key(folder, "switching_key", "summed", "switched")?;
+fn switched(folder: Folder) {
+    keys::switching_key(folder, "switching_key", "summed", "switched");
     keys::switching_key(
         folder,
         "signed_switching_key",
         "signed_fresh",
         "signed_switched",
-    )?;
+    );
     let mut words = [0u32; 8192];
     for name in ["switched", "signed_switched"] {
-        ciphertexts::opened(folder, name, "group_secret", &mut words)?;
+        ciphertexts::opened(folder, name, "group_secret", &mut words);
     }
-    Ok(())
 }
 
 // Sums of other numbers of encryptions, which a release saves from the sixth on.
-fn summed(folder: Folder) -> Result<(), AllocError> {
+fn summed(folder: Folder) {
     let mut words = [0u32; 8192];
-    ciphertexts::opened(folder, "total", "secret", &mut words)?;
-    keys::switching_key(folder, "switching_key", "total", "switched_total")?;
-    ciphertexts::opened(folder, "switched_total", "group_secret", &mut words)
+    ciphertexts::opened(folder, "total", "secret", &mut words);
+    keys::switching_key(folder, "switching_key", "total", "switched_total");
+    ciphertexts::opened(folder, "switched_total", "group_secret", &mut words);
 }
 
 // The files that every release has saved.
-fn told(folder: Folder) -> Result<(), AllocError> {
-    tried(folder)?;
-    opened(folder)?;
-    switched(folder)
+fn told(folder: Folder) {
+    tried(folder);
+    opened(folder);
+    switched(folder);
 }
 
-fn main(rt: HostRuntime) -> Result<(), AllocError> {
+fn main(rt: HostRuntime) {
     for path in [
         "release_1/native/",
         "release_1/prime/",
@@ -80,12 +78,11 @@ fn main(rt: HostRuntime) -> Result<(), AllocError> {
         "release_3/native/",
         "release_3/prime/",
     ] {
-        told(Folder { rt: &rt, path })?;
+        told(Folder { rt: &rt, path });
     }
     for path in ["release_6/native/", "release_6/prime/", "release_6/power/"] {
         let folder = Folder { rt: &rt, path };
-        told(folder)?;
-        summed(folder)?;
+        told(folder);
+        summed(folder);
     }
-    Ok(())
 }
