@@ -31,13 +31,17 @@ impl State {
         self.wrong = self.wrong.wrapping_add(u64::from(!right));
     }
 
-    // A basis record, if it is whole; the answer is whether it is, here and below.
-    fn on_basis(&mut self, record: Option<[u8; 94]>) -> bool {
-        let right = record.is_some_and(|r| basis::compare(&r, &mut self.held));
-        self.count_basis(right);
-        record.is_some()
+    // A basis record; the answer is whether it is whole. One that breaks off is wrong, and where its zeros make a basis that is accepted,
+    // this is held all the same.
+    fn on_basis(&mut self, input: &mut impl Read) -> bool {
+        let mut r = [0; 94];
+        let whole = programs::read_full(input, &mut r) == r.len();
+        let right = basis::compare(&r, &mut self.held);
+        self.count_basis(right && whole);
+        whole
     }
 
+    // A word record, if it is whole; the answer is whether it is.
     fn on_word(&mut self, record: Option<Expected>) -> bool {
         let right = record.is_some_and(|expected| word::compare(self.held, &expected));
         self.count_word(right);
@@ -48,7 +52,7 @@ impl State {
     // Stays: a match on the file's tag, since each stands for a record of another length; and a bool, since what a record was is counted.
     fn one(&mut self, input: &mut impl Read) -> bool {
         match programs::record::<1>(input).map(|tag| tag[0]) {
-            Some(1) => self.on_basis(programs::record(input)),
+            Some(1) => self.on_basis(input),
             Some(2) => {
                 let record = programs::record::<85>(input);
                 self.on_word(record.as_ref().map(|r| Expected::new(r)))

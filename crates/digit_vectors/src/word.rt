@@ -28,7 +28,7 @@ impl<'a> Expected<'a> {
         }
     }
 
-    // A short record is never refused.
+    // A short record is never refused. It holds four digits: any others are 0.
     pub(crate) fn short(r: &'a [u8]) -> Expected<'a> {
         Expected {
             word: little_endian::u32_at(r, 0),
@@ -53,11 +53,11 @@ impl<'a> Expected<'a> {
     }
 
     fn steps_are(&self, start: SignedDecomposer, count: usize) -> bool {
-        let mut right = bytes::has(self.digits, count);
+        let mut right = true;
         let mut d = start;
-        for bytes in self.digits.chunks_exact(4).take(count) {
+        for i in 0..count {
             let s = d.step();
-            right &= s.digit == little_endian::u32_at(bytes, 0);
+            right &= s.digit == bytes::word_at(self.digits, i);
             d = s.next;
         }
         right
