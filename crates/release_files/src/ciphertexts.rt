@@ -12,6 +12,9 @@ use saved_head::{Head, Kind};
 // Stays: no Option: the calls write words into the room, and a message is below t, so never 2^32 − 1.
 const NONE: u32 = u32::MAX;
 
+// The most ciphertexts that are opened under a signed secret: a file with more of them differs.
+const SIGNED: usize = 64;
+
 fn parameters(h: Head) -> Result<LweDecryptionParameters, Refusal> {
     Ok(LweDecryptionParameters {
         dimension: LweDimension::try_new(h.n)?,
@@ -44,6 +47,7 @@ impl SecretWord for i32 {
     fn open(l: Loaded<u32>, secret: Loaded<i32>, out: &mut [u32]) -> Result<(), Fault> {
         agrees(secret.head.words as usize <= secret.room.len())?;
         let params = parameters(l.head)?;
+        agrees(out.len() <= SIGNED)?;
         let key = LweSecretKeyRef::Signed(secret.words);
         out.fill(NONE);
         let rows = l.room.chunks_exact(l.head.n.saturating_add(1));

@@ -3,10 +3,10 @@ use crate::files::{Fault, Folder, agrees, tags_of};
 use check_order::Refusal;
 use key_switch::key_switch_batch_to;
 use key_switch_parameters::LweKeySwitchingParameters;
-use primus_lattice::LweDimension;
+use primus_lattice::{LweDimension, LweTag};
 use primus_lwe::LwePhaseParameters;
 use primus_lwe_batch::decrypt_phase_batch_to;
-use saved_files::{Loaded, SavedWord, TAGS};
+use saved_files::{Loaded, SavedWord};
 use saved_head::{Head, Kind};
 
 fn secret_verdict<W: SavedWord>(l: Loaded<W>, kind: Kind) -> Result<(), Fault> {
@@ -68,6 +68,27 @@ pub(crate) fn public_key(folder: Folder, name: &str, secret: &str) {
     folder.end("rows that open to 0", public_verdict(l, s));
 }
 
+// The most ciphertexts of an input: each has two words or more.
+const ROWS: usize = 4096;
+
+// The tags that an input's ciphertexts are switched with: its own, as many as a program is told, and for the others none.
+fn given<'a>(input: Loaded<u32>, n: usize, room: &'a mut [LweTag]) -> &'a mut [LweTag] {
+    for (tag, own) in room.iter_mut().zip(tags_of(input.head, &input.tags)) {
+        *tag = *own;
+    }
+    let rows = input.words.len() / n.saturating_add(1);
+    let count = room.len().min(rows);
+    &mut room[..count]
+}
+
+// The tags that an output is told with are those that the switch left.
+fn carries(output: Loaded<u32>, left: &[LweTag]) -> bool {
+    tags_of(output.head, &output.tags)
+        .iter()
+        .zip(left)
+        .all(|(own, tag)| *own == *tag)
+}
+
 // The key switches the saved input to the saved output, word for word, and tag for tag.
 fn switch_verdict(key: Loaded<u32>, input: Loaded<u32>, output: Loaded<u32>) -> Result<(), Fault> {
     key.refusal?;
@@ -76,11 +97,11 @@ fn switch_verdict(key: Loaded<u32>, input: Loaded<u32>, output: Loaded<u32>) -> 
     let mut room = [0u32; 8192];
     let count = room.len().min(output.words.len());
     let out = &mut room[..count];
-    let mut tags = input.tags;
-    let given = &mut tags[..TAGS.min(input.head.count as usize)];
-    key_switch_batch_to(params, key.words, input.words, given, out)?;
+    let mut room = [LweTag::untallied(); ROWS];
+    let tags = given(input, h.n, &mut room);
+    key_switch_batch_to(params, key.words, input.words, tags, out)?;
     agrees(programs::same(out, output.words, output.head.words as usize))?;
-    agrees(*given == *tags_of(output.head, &output.tags))?;
+    agrees(carries(output, tags))?;
     agrees(h.kind == Kind::SwitchingKey)
 }
 
