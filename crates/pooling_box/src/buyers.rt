@@ -44,7 +44,7 @@ fn is_other(h: Head, modulus: Modulus) -> bool {
 
 pub(crate) fn open(rt: &(impl Files + Print + Eprint), t: u32, sent: Sent) {
     let mut room = [0u32; 16368];
-    let l = saved_files::load(rt, "group_secret", &mut room);
+    let l = saved_files::load(rt, b"group_secret", &mut room);
     if l.refusal.is_err() || is_other(l.head, sent.modulus) {
         reasons::told_file(rt, "group_secret", Err(Refusal::Unreadable), l.stored);
         return;

@@ -28,7 +28,7 @@ fn collect(rt: &(impl Files + Print + Eprint), pool: &mut Pool) {
     let mut bytes = [0u8; ROOM];
     let _ = println!(rt; "the box adds the shops' rows of four encrypted counts:");
     for name in &SHOPS {
-        let file = programs::read_file(rt, name, &mut bytes);
+        let file = programs::read_file(rt, name.as_bytes(), &mut bytes);
         let answer = pool.add(file.unwrap_or(&[]));
         reasons::told_file(rt, name, answer, saved_files::stored_as(file));
     }
@@ -121,7 +121,7 @@ pub(crate) fn run<'a>(
     room: &'a mut [u32],
 ) -> Option<Sent<'a>> {
     let mut key = [0u32; 16368];
-    let l = saved_files::load(rt, "switching_key", &mut key);
+    let l = saved_files::load(rt, b"switching_key", &mut key);
     if l.refusal.is_err() {
         reasons::told_file(rt, "switching_key", l.refusal, l.stored);
         return None;

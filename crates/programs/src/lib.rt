@@ -10,6 +10,22 @@ use std::fs;
 use std::io::Read;
 use std::rt::Files;
 
+// Text as it stands; a write that fails is passed over.
+pub fn write(rt: &impl Print, text: &[u8]) {
+    let _ = rt.write_all(text);
+}
+
+pub fn print(rt: &impl Print, label: &[u8], number: u64) {
+    write(rt, label);
+    let _ = print!(rt; "{number}");
+}
+
+// A line.
+pub fn say(rt: &impl Print, label: &[u8], number: u64) {
+    print(rt, label, number);
+    write(rt, b"\n");
+}
+
 // A file to read; where it cannot be opened, standard error says why.
 // No clause, since `fs::open` has none: which file a name opens, and when it opens, no contract can say.
 pub fn open_named<R: Files + Eprint>(rt: &R, name: &str) -> Option<R::File> {
@@ -20,6 +36,11 @@ pub fn open_named<R: Files + Eprint>(rt: &R, name: &str) -> Option<R::File> {
             None
         }
     }
+}
+
+// The same under a name of any bytes: bytes that are no text name no file.
+pub fn open<R: Files + Eprint>(rt: &R, path: &[u8]) -> Option<R::File> {
+    open_named(rt, str::from_utf8(path).ok()?)
 }
 
 // One read. Stays: no Result: one that fails gives no byte, and `read_full` would turn it into 0 all the same.
@@ -53,12 +74,26 @@ pub fn record<const N: usize>(input: &mut impl Read) -> Option<[u8; N]> {
 }
 
 // The first bytes of a file, as many as there is room for; none where it cannot be opened.
-pub fn read_file<'a>(rt: &(impl Files + Eprint), name: &str, room: &'a mut [u8]) -> Option<&'a [u8]>
+pub fn read_file<'a>(
+    rt: &(impl Files + Eprint),
+    path: &[u8],
+    room: &'a mut [u8],
+) -> Option<&'a [u8]>
     ensures { IfSome result (λ bytes. length bytes.now ≤ length room.old) }
 {
-    let mut file = open_named(rt, name)?;
+    let mut file = open(rt, path)?;
     let len = read_full(&mut file, room);
     Some(&room[..len])
+}
+
+// How many bytes of a file there was room for; 0 where it cannot be opened.
+pub fn read(rt: &(impl Files + Eprint), path: &[u8], bytes: &mut [u8]) -> usize
+    ensures { result ≤ length bytes.new }
+{
+    match open(rt, path) {
+        Some(mut file) => read_full(&mut file, bytes),
+        None => 0,
+    }
 }
 
 // A modulus of a record: a byte that is 0 for the native one, then its number.
@@ -75,6 +110,13 @@ pub fn embedding_at(record: &[u8], at: usize) -> PlaintextEmbedding {
         0 => PlaintextEmbedding::Unsigned,
         _ => PlaintextEmbedding::Centered,
     }
+}
+
+// The smaller of two lengths: a part of so many words is there, and the call that takes it judges whether they are enough.
+pub fn at_most(len: usize, most: usize) -> usize
+    ensures { result ≤ most }
+{
+    len.min(most)
 }
 
 // The first `count` words are the same; there are that many in both.

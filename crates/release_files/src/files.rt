@@ -64,7 +64,7 @@ impl Folder<'_> {
     ) -> Loaded<'w, W> {
         let mut path = ArrayString::<64>::new();
         let _ = write!(path, "{}{name}{suffix}", self.path);
-        saved_files::load(self.rt, path.as_str(), words)
+        saved_files::load(self.rt, path.as_bytes(), words)
     }
 
     // ", tally 3, c 1 (good)"; a refusal by its number alone, as at the end of a line.

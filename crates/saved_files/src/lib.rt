@@ -84,11 +84,11 @@ fn first_tags(bytes: &[u8]) -> [LweTag; TAGS] {
 // A file with its words, as many as there is room for.
 pub fn load<'a, W: SavedWord>(
     rt: &(impl Files + Eprint),
-    name: &str,
+    path: &[u8],
     words: &'a mut [W],
 ) -> Loaded<'a, W> {
     let mut room = [0u8; ROOM];
-    let file = programs::read_file(rt, name, &mut room);
+    let file = programs::read_file(rt, path, &mut room);
     let bytes = file.unwrap_or(&[]);
     let head = saved_head::head_of(bytes);
     saved::words_to(bytes, words);
