@@ -49,7 +49,8 @@ impl<'a> LweSecretKeyRef<'a> {
         checks::words_refused(modulus, run) | self.refused(modulus)
     }
 
-    // ⟨a, s⟩ over the places of a; what the key lacks counts as 0.
+    // ⟨a, s⟩ over the places of a; what the key lacks counts as 0. Inlined, and so is `phase`: else rows of few words take a quarter more time.
+    #[inline(always)]
     #[tactic(auto, unfolding(scheme::specs::Lwe::inner, primus_reduce::specs::Dot::dot, primus_reduce::specs::Dot::dot_signed))]
     pub(crate) fn product(self, mask: &[u32], modulus: Modulus) -> u32
         ensures { result ≡ modulo (size_of modulus) (inner (length mask.now) mask.now (secret_of (key_of self.entry))) }

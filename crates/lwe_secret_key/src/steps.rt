@@ -78,6 +78,7 @@ pub fn encrypt_row(
 
 impl<'a> LweSecretKeyRef<'a> {
     // b − ⟨a, s⟩, where the last word is b.
+    #[inline(always)]
     #[tactic(auto, using(crate::proofs::Laws::phase_is, crate::proofs::Laws::phase_none))]
     pub fn phase(self, ciphertext: &[u32], ring: Ring) -> u32
         ensures { result ≡ phase_of (size_of ring.modulus) (length ciphertext.now - 1) ciphertext.now
