@@ -7,7 +7,7 @@ ghost use Rattle.lwe_errors.specs.Errors.{errors_in};
 
 use lwe_errors::LweErrorsRef;
 use lwe_secret_key::body;
-use primus_lattice::copy_words;
+use lwe_words::copy_words;
 use primus_reduce::{Factor, Ring};
 
 // A mask and a key of as many words.

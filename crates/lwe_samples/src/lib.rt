@@ -13,7 +13,8 @@ ghost use Rattle.lwe_samples.specs.Answers.{body_fails, extract_rows, Extracts};
 
 use check_order::{Refusal, Sizes, Values};
 use lwe_tag::LweTag;
-use primus_lattice::{LweDimension, copy_words};
+use lwe_words::copy_words;
+use primus_lattice::LweDimension;
 use primus_reduce::{Modulus, Ring};
 
 // 10: fewer than n words, or more than n bodies. No sum: it could overflow.

@@ -9,7 +9,7 @@ ghost use Rattle.lwe_errors.specs.Errors.{errors_in};
 
 use crate::key::LweSecretKeyRef;
 use lwe_errors::LweErrorsRef;
-use primus_lattice::copy_words;
+use lwe_words::copy_words;
 use primus_reduce::{Factor, Ring};
 
 fn write(out: &mut [u32], mask: &[u32], body: u32)

@@ -3,11 +3,9 @@
 // the struct of them, LwePhaseParameters, is made above this crate.
 #![tactic(auto)]
 
-mod copy;
 mod dimension;
 mod single_message;
 
-pub use copy::copy_words;
 pub use dimension::LweDimension;
 pub use lwe_tag::LweTag;
 pub use single_message::add_assign;

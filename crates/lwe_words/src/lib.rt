@@ -1,7 +1,9 @@
-// Words of a ciphertext, written where a call has room for them.
+// Words written where a call has room for them. A crate below, not for users: its call has a demand.
+#![tactic(auto)]
+
 ghost use Rattle.std.specs.Prelude.{◌≡◌, length};
 
-// out becomes `words`. A step, not for users.
+// out becomes `words`.
 // Stays: a loop: `copy_from_slice` makes the library for C ask for a `memmove`, and it asks for `memset` alone.
 #[tactic(auto, using(scheme::proofs::InPlace::filled_start, scheme::proofs::InPlace::filled_end))]
 pub fn copy_words(out: &mut [u32], words: &[u32])
