@@ -6,12 +6,12 @@ use std::io::Write;
 
 // A write that fails is passed over, and the next piece is tried.
 #[derive(Drop)]
-pub struct Pieces<'a, W> {
+pub(crate) struct Pieces<'a, W> {
     out: &'a mut W,
 }
 
 impl<'a, W: Write> Pieces<'a, W> {
-    pub fn new(out: &'a mut W) -> Pieces<'a, W> {
+    pub(crate) fn new(out: &'a mut W) -> Pieces<'a, W> {
         Pieces { out }
     }
 }
