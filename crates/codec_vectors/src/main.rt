@@ -6,6 +6,8 @@ mod bytes;
 mod slices;
 mod values;
 
+use programs::Pieces;
+use std::fmt::Write;
 use std::io::Read;
 use std::rt::Files;
 
@@ -76,8 +78,10 @@ fn file(rt: &(impl Files + Eprint), name: &str, s: Score) -> Score {
 fn main(rt: HostRuntime) {
     let made = file(&rt, "codec.bin", Score::default());
     let s = file(&rt, "oracle.bin", made);
-    let _ = println!(&rt; "compared {}\nwrong {}", s.compared, s.wrong);
+    let mut out = Pieces(&rt);
+    let _ = writeln!(out, "compared {}", s.compared);
+    let _ = writeln!(out, "wrong {}", s.wrong);
     if let Some(first) = s.first {
-        let _ = println!(&rt; "first wrong {first}");
+        let _ = writeln!(out, "first wrong {first}");
     }
 }

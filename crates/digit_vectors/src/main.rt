@@ -7,6 +7,8 @@ mod bytes;
 mod word;
 
 use basis::Held;
+use programs::Pieces;
+use std::fmt::Write;
 use std::io::Read;
 use std::rt::Files;
 use word::Expected;
@@ -91,5 +93,8 @@ fn main(rt: HostRuntime) {
     let mut s = State::default();
     s.file(&rt, "digits.bin");
     s.file(&rt, "oracle.bin");
-    let _ = println!(&rt; "bases {}\nwords {}\nwrong {}", s.bases, s.words, s.wrong);
+    let mut out = Pieces(&rt);
+    let _ = writeln!(out, "bases {}", s.bases);
+    let _ = writeln!(out, "words {}", s.words);
+    let _ = writeln!(out, "wrong {}", s.wrong);
 }

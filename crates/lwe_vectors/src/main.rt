@@ -13,8 +13,10 @@ mod tags;
 mod total;
 
 use kind::Kind;
+use programs::Pieces;
 use record::{Head, Record, Room};
 use said::Said;
+use std::fmt::Write;
 use std::io::Read;
 use std::rt::Files;
 
@@ -100,7 +102,8 @@ fn all(rt: &impl Print, input: &mut impl Read, room: &mut Room, counts: &mut Cou
         match turn(input, room) {
             Outcome::End => return true,
             Outcome::Differs(kind) => {
-                let _ = println!(rt; "first that differs: record {number}\nof kind {kind}");
+                let _ = writeln!(Pieces(rt), "first that differs: record {number}");
+                let _ = writeln!(Pieces(rt), "of kind {kind}");
                 return false;
             }
             Outcome::Equal(kind) => {
@@ -131,7 +134,7 @@ fn print(rt: &impl Print, counts: &Counts) {
     for (kind, count) in counts.iter().enumerate() {
         let told = *count != 0 && Kind::named(kind as u32).is_some();
         if told || (1..33).contains(&kind) {
-            let _ = println!(rt; "kind {kind}: {count}");
+            let _ = writeln!(Pieces(rt), "kind {kind}: {count}");
         }
     }
 }

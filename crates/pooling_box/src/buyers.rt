@@ -7,7 +7,9 @@ use primus_lattice::LweDimension;
 use primus_lwe::LweDecryptionParameters;
 use primus_lwe_batch::decrypt_message_batch_to;
 use primus_reduce::Modulus;
+use programs::Pieces;
 use saved_head::{Head, Kind};
+use std::fmt::Write;
 use std::rt::Files;
 
 const MARKS: &str = "\
@@ -17,12 +19,18 @@ the opened total is never marked good itself: it rests on the marks above, on
 the errors and numbers of encryptions that the shops declare, and on the bound
 of the switching error";
 
+fn print_marks(rt: &impl Print) {
+    for line in MARKS.lines() {
+        let _ = println!(rt; "{line}");
+    }
+}
+
 fn print_totals(rt: &impl Print, counts: [u32; PLACES]) {
     let _ = println!(rt; "the buyers open it with the group's secret:");
     for (i, count) in counts.iter().enumerate() {
-        let _ = println!(rt; "  casting {}: {count}", i + 1);
+        let _ = writeln!(Pieces(rt), "  casting {}: {count}", i + 1);
     }
-    let _ = println!(rt; "{MARKS}");
+    print_marks(rt);
 }
 
 // Opens what was sent, under a secret that is in order.

@@ -5,6 +5,8 @@ use check_order::Refusal;
 use key_switch::key_switch_batch_to;
 use key_switch_parameters::LweKeySwitchingParameters;
 use pooling::{LweDecryptionParameters, LweTag, add_saved, begin_saved};
+use programs::Pieces;
+use std::fmt::Write;
 
 // The words of the total, a tag for each place, and how many rows were added.
 // Stays: tags beside the words: `pooling` is lent them so; and rows 0 for a total that has not begun, no Option: it is printed.
@@ -44,10 +46,13 @@ impl Pool<'_> {
     // What each place carries, and its mark.
     pub(crate) fn print_marks(&self, rt: &impl Print) {
         for (i, tag) in self.tags.iter().enumerate() {
+            let mut out = Pieces(rt);
+            let _ = write!(out, "  casting {}", i + 1);
             let _ = match tag.tally() {
-                None => print!(rt; "  casting {}: no tally, c {}", i + 1, tag.count()),
-                Some(a) => print!(rt; "  casting {}: tally {a}, c {}", i + 1, tag.count()),
+                None => write!(out, ": no tally"),
+                Some(a) => write!(out, ": tally {a}"),
             };
+            let _ = write!(out, ", c {}", tag.count());
             match tag.is_good(self.params.modulus, self.params.plaintext_modulus) {
                 Ok(good) => print_good(rt, good),
                 Err(reason) => reasons::refused(rt, reason),

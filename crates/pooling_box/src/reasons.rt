@@ -1,15 +1,17 @@
 // The refusals in words.
 use check_order::Refusal;
+use programs::Pieces;
 use saved_files::Stored;
+use std::fmt::Write;
 
 // The number, and in words what it stands for.
 pub(crate) fn refused(rt: &impl Print, reason: Refusal) {
-    let _ = println!(rt; "refused {reason}");
+    let _ = writeln!(Pieces(rt), "refused {reason}");
 }
 
 // A name, and what became of it.
 pub(crate) fn told(rt: &impl Print, name: &str, answer: Result<(), Refusal>) {
-    let _ = print!(rt; "{name}: ");
+    let _ = write!(Pieces(rt), "{name}: ");
     match answer {
         Ok(()) => {
             let _ = println!(rt; "accepted");
@@ -22,7 +24,9 @@ pub(crate) fn told(rt: &impl Print, name: &str, answer: Result<(), Refusal>) {
 // Display would say `an unknown command` too.
 pub(crate) fn told_file(rt: &impl Print, name: &str, answer: Result<(), Refusal>, stored: Stored) {
     if answer == Err(Refusal::Unreadable) {
-        let _ = println!(rt; "{name}: refused 19: {stored}");
+        let _ = write!(Pieces(rt), "{name}: refused 19: ");
+        // One write with its newline.
+        let _ = println!(rt; "{stored}");
         return;
     }
     told(rt, name, answer);

@@ -8,8 +8,10 @@ use pooling::{LweDecryptionParameters, LweTag};
 use primus_decompose::ApproxSignedBasis;
 use primus_lattice::LweDimension;
 use primus_reduce::Modulus;
+use programs::Pieces;
 use saved_files::{ROOM, Stored};
 use saved_head::{Head, Kind};
+use std::fmt::Write;
 use std::rt::Files;
 
 const SHOPS: [&str; 9] = [
@@ -32,7 +34,7 @@ fn collect(rt: &(impl Files + Print + Eprint), pool: &mut Pool) {
         let answer = pool.add(file.unwrap_or(&[]));
         reasons::told_file(rt, name, answer, saved_files::stored_as(file));
     }
-    let _ = println!(rt; "rows added: {}", pool.rows);
+    let _ = writeln!(Pieces(rt), "rows added: {}", pool.rows);
     if pool.rows != 0 {
         let _ = println!(rt; "the total before the switch:");
         pool.print_marks(rt);

@@ -1,14 +1,14 @@
 // What the programs share: a file read whole, a record and what stands in it, words compared, a number among the arguments.
 #![tactic(auto)]
 
-ghost use Rattle.std.specs.Prelude.{◌≤◌, IfSome, length};
+ghost use Rattle.std.specs.Prelude.{◌≤◌, IfSome, IsOk, length};
 
 use primus_encoding::PlaintextEmbedding;
 use primus_reduce::Modulus;
 use std::env::{Env, FillError};
-use std::fs;
 use std::io::Read;
 use std::rt::Files;
+use std::{fmt, fs};
 
 // Text as it stands; a write that fails is passed over.
 pub fn write(rt: &impl Print, text: &[u8]) {
@@ -24,6 +24,20 @@ pub fn print(rt: &impl Print, label: &[u8], number: u64) {
 pub fn say(rt: &impl Print, label: &[u8], number: u64) {
     print(rt, label, number);
     write(rt, b"\n");
+}
+
+// A writer of text piece by piece, each by a write of its own: one that fails is passed over, and the next is tried. So a line
+// ends where there is room for its newline alone.
+#[derive(Drop)]
+pub struct Pieces<'a, R>(pub &'a R);
+
+impl<R: Print> fmt::Write for Pieces<'_, R> {
+    fn write_str(&mut self, s: &str) -> fmt::Result
+        ensures goes_on { IsOk result }
+    {
+        write(self.0, s.as_bytes());
+        Ok(())
+    }
 }
 
 // A file to read; where it cannot be opened, standard error says why.

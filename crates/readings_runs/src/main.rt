@@ -7,7 +7,9 @@ use std::fmt::Write;
 fn replay(rt: &HostRuntime, n: u32) {
     let mut name = ArrayString::<16>::new();
     let _ = write!(name, "run{n:02}");
-    let _ = println!(rt; "run {n:02}");
+    // Two writes: where one fails, the other is tried.
+    programs::write(rt, b"run");
+    let _ = println!(rt; " {n:02}");
     if let Some(mut file) = programs::open_named(rt, name.as_str()) {
         readings_files::run(&mut file, &mut rt.stdout());
     }

@@ -5,8 +5,10 @@ use primus_lattice::LweDimension;
 use primus_lwe::{LweDecryptionParameters, LweSecretKeyRef, decrypt_message};
 use primus_lwe_batch::decrypt_message_batch_to;
 use primus_lwe_packed::decrypt_message_packed;
+use programs::Pieces;
 use saved_files::{Loaded, SavedWord};
 use saved_head::{Head, Kind};
+use std::fmt::Write;
 
 // What stands where no message could be opened: it differs from every message.
 // Stays: no Option: the calls write words into the room, and a message is below t, so never 2^32 − 1.
@@ -77,7 +79,12 @@ fn tell(folder: Folder, name: &str, l: Loaded<u32>, opening: Result<(), Fault>, 
     let mut told = [0u32; 8192];
     let beside = folder.load(name, ".opens", &mut told);
     folder.begin(name, l);
-    let _ = print!(folder.rt; "{} messages, checksum {}: ", l.head.count, beside.checksum);
+    let _ = write!(
+        Pieces(folder.rt),
+        "{} messages, checksum {}: ",
+        l.head.count,
+        beside.checksum
+    );
     folder.end("as saved", told_verdict(l, beside, opening, out));
 }
 

@@ -2,6 +2,7 @@
 use arrayvec::ArrayString;
 use check_order::Refusal;
 use primus_lattice::LweTag;
+use programs::Pieces;
 use saved_files::{Loaded, SavedWord, TAGS};
 use saved_head::{Head, Kind};
 use std::fmt;
@@ -20,12 +21,13 @@ impl From<Refusal> for Fault {
     }
 }
 
-// The end of its line. Stays: a refusal's number, no Display: the program's stdout, which stays, has no meaning beside it.
+// The end of its line, with its newline.
+// Stays: a refusal's number, no Display: the program's stdout, which stays, has no meaning beside it.
 impl fmt::Display for Fault {
     fn fmt<W: fmt::Write>(&self, f: &mut fmt::Formatter<W>) -> fmt::Result {
         match self {
-            Fault::Refused(reason) => write!(f, "REFUSED {}", u32::from(*reason)),
-            Fault::Differs => write!(f, "DIFFERS"),
+            Fault::Refused(reason) => writeln!(f, "REFUSED {}", u32::from(*reason)),
+            Fault::Differs => writeln!(f, "DIFFERS"),
         }
     }
 }
@@ -69,14 +71,15 @@ impl Folder<'_> {
 
     // ", tally 3, c 1 (good)"; a refusal by its number alone, as at the end of a line.
     fn tell_tag(self, h: Head, tag: LweTag) {
+        let mut out = Pieces(self.rt);
         let _ = match tag.tally() {
-            Some(tally) => print!(self.rt; ", tally {tally}, c {}", tag.count()),
-            None => print!(self.rt; ", no tally, c {}", tag.count()),
+            Some(tally) => write!(out, ", tally {tally}, c {}", tag.count()),
+            None => write!(out, ", no tally, c {}", tag.count()),
         };
         let _ = match tag.is_good(h.modulus, h.plaintext_modulus) {
-            Ok(true) => print!(self.rt; " (good)"),
-            Ok(false) => print!(self.rt; " (not good)"),
-            Err(reason) => print!(self.rt; " refused {}", u32::from(reason)),
+            Ok(true) => write!(out, " (good)"),
+            Ok(false) => write!(out, " (not good)"),
+            Err(reason) => write!(out, " refused {}", u32::from(reason)),
         };
     }
 
@@ -93,21 +96,24 @@ impl Folder<'_> {
 
     // "folder/name: kind 5, 100 words, tally 3, c 1 (good), checksum 1234: ".
     pub(crate) fn begin<W: SavedWord>(self, name: &str, l: Loaded<W>) {
-        let _ = print!(self.rt;
+        let mut out = Pieces(self.rt);
+        let _ = write!(
+            out,
             "{}{name}: kind {}, {} words",
             self.path,
             u32::from(l.head.kind),
             l.head.words
         );
         self.tell_tags(l.head, tags_of(l.head, &l.tags));
-        let _ = print!(self.rt; ", checksum {}: ", l.checksum);
+        let _ = write!(out, ", checksum {}: ", l.checksum);
     }
 
     // The end of a line.
     pub(crate) fn end(self, good: &str, verdict: Result<(), Fault>) {
+        let mut out = Pieces(self.rt);
         let _ = match verdict {
-            Ok(()) => println!(self.rt; "{good}"),
-            Err(fault) => println!(self.rt; "{fault}"),
+            Ok(()) => writeln!(out, "{good}"),
+            Err(fault) => write!(out, "{fault}"),
         };
     }
 }
