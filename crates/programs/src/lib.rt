@@ -80,10 +80,13 @@ pub fn read_full(input: &mut impl Read, bytes: &mut [u8]) -> usize
     done
 }
 
-// The N bytes of a record; none where the input ends before.
+// The N bytes of a record; none where the input ends, or a read fails, before.
+// Stays: no `read_exact`, which goes on where a read is interrupted.
 pub fn record<const N: usize>(input: &mut impl Read) -> Option<[u8; N]> {
     let mut bytes = [0; N];
-    input.read_exact(&mut bytes).ok()?;
+    if read_full(input, &mut bytes) < N {
+        return None;
+    }
     Some(bytes)
 }
 
