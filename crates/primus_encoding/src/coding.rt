@@ -130,7 +130,7 @@ impl RoundedCodec {
     }
 
     // One word, judged as a slice of one, and made with no loop.
-    #[tactic(auto, using(crate::proofs::Laws::value_refused, crate::proofs::Laws::value_given))]
+    #[tactic(auto, using(crate::proofs::Laws::judged_refused, crate::proofs::Laws::judged_given))]
     pub(crate) fn code_value(self, coding: Coding, x: u32, held: u32) -> Result<u32, Refusal>
         ensures { result ≡ coded_answer coding self.plaintext_modulus self.ciphertext_modulus x held }
     {
