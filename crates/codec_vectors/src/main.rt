@@ -6,7 +6,7 @@ mod bytes;
 mod slices;
 mod values;
 
-use programs::Pieces;
+use programs::{Pieces, full_record};
 use std::fmt::Write;
 use std::io::Read;
 use std::rt::Files;
@@ -47,10 +47,10 @@ enum Next {
 
 // Stays: a match on the file's tag: each stands for a record of another length.
 fn turn(input: &mut impl Read) -> Next {
-    match programs::record::<1>(input).map(|tag| tag[0]) {
+    match full_record::<1>(input).map(|tag| tag[0]) {
         Some(0) => Next::End,
-        Some(1) => Next::Record(programs::record::<37>(input).is_some_and(|r| values::right(&r))),
-        Some(2) => Next::Record(programs::record::<86>(input).is_some_and(|r| slices::right(&r))),
+        Some(1) => Next::Record(full_record::<37>(input).is_some_and(|r| values::right(&r))),
+        Some(2) => Next::Record(full_record::<86>(input).is_some_and(|r| slices::right(&r))),
         _ => Next::Broken,
     }
 }

@@ -53,14 +53,14 @@ impl State {
     // One record, and whether there may be more. The last is a zero byte; anything else is counted as wrong.
     // Stays: a match on the file's tag, since each stands for a record of another length; and a bool, since what a record was is counted.
     fn one(&mut self, input: &mut impl Read) -> bool {
-        match programs::record::<1>(input).map(|tag| tag[0]) {
+        match programs::full_record::<1>(input).map(|tag| tag[0]) {
             Some(1) => self.on_basis(input),
             Some(2) => {
-                let record = programs::record::<85>(input);
+                let record = programs::full_record::<85>(input);
                 self.on_word(record.as_ref().map(|r| Expected::new(r)))
             }
             Some(3) => {
-                let record = programs::record::<28>(input);
+                let record = programs::full_record::<28>(input);
                 self.on_word(record.as_ref().map(|r| Expected::short(r)))
             }
             Some(0) => false,

@@ -173,7 +173,7 @@ impl Head {
     }
 
     pub(crate) fn read(input: &mut impl Read) -> Option<Head> {
-        let bytes = programs::record::<HEAD>(input)?;
+        let bytes = programs::full_record::<HEAD>(input)?;
         Some(Head::of(&bytes))
     }
 

@@ -80,9 +80,16 @@ pub fn read_full(input: &mut impl Read, bytes: &mut [u8]) -> usize
     done
 }
 
-// The N bytes of a record; none where the input ends, or a read fails, before.
-// Stays: no `read_exact`, which goes on where a read is interrupted.
+// The N bytes of a record; none where the input ends before. A read that is interrupted is tried again.
 pub fn record<const N: usize>(input: &mut impl Read) -> Option<[u8; N]> {
+    let mut bytes = [0; N];
+    input.read_exact(&mut bytes).ok()?;
+    Some(bytes)
+}
+
+// The same, and none where a read fails before, one that is interrupted too: so the programs read.
+// Stays: no `read_exact`, which goes on where a read is interrupted.
+pub fn full_record<const N: usize>(input: &mut impl Read) -> Option<[u8; N]> {
     let mut bytes = [0; N];
     if read_full(input, &mut bytes) < N {
         return None;
@@ -159,5 +166,57 @@ pub fn argument(rt: &impl Env, i: usize, otherwise: Option<u32>) -> Option<u32> 
         Ok(len) => number_of(&room[..len]),
         Err(FillError::TooLong) => None,
         Err(FillError::NotPresent) => otherwise,
+    }
+}
+
+#[cfg(test)]
+mod tests {
+    use super::*;
+    use std::io;
+    use std::io::ErrorKind;
+
+    // Bytes from 1 on, as many as are left; its first read may be interrupted.
+    #[derive(Drop)]
+    struct Source {
+        interrupted: bool,
+        given: u8,
+        left: u8,
+    }
+
+    impl Read for Source {
+        fn read(&mut self, buf: &mut [u8]) -> io::Result<usize> {
+            if self.interrupted {
+                self.interrupted = false;
+                return Err(io::Error::from(ErrorKind::Interrupted));
+            }
+            let Some(place) = buf.first_mut() else {
+                return Ok(0);
+            };
+            let Some(left) = self.left.checked_sub(1) else {
+                return Ok(0);
+            };
+            self.left = left;
+            self.given = self.given.wrapping_add(1);
+            *place = self.given;
+            Ok(1)
+        }
+    }
+
+    fn input(interrupted: bool, left: u8) -> Source {
+        Source {
+            interrupted,
+            given: 0,
+            left,
+        }
+    }
+
+    #[test]
+    fn records(rt: HostRuntime) {
+        assert_eq!(rt; record::<4>(&mut input(false, 4)), Some([1, 2, 3, 4]));
+        assert_eq!(rt; record::<4>(&mut input(true, 4)), Some([1, 2, 3, 4]));
+        assert_eq!(rt; record::<4>(&mut input(true, 3)), None);
+        assert_eq!(rt; full_record::<4>(&mut input(false, 4)), Some([1, 2, 3, 4]));
+        assert_eq!(rt; full_record::<4>(&mut input(false, 3)), None);
+        assert_eq!(rt; full_record::<4>(&mut input(true, 4)), None);
     }
 }
