@@ -80,14 +80,14 @@ pub fn read_full(input: &mut impl Read, bytes: &mut [u8]) -> usize
     done
 }
 
-// The N bytes of a record; none where the input ends before. A read that is interrupted is tried again.
+// The N bytes of a record; none where the input ends, or a read fails, before. One that is interrupted is tried again.
 pub fn record<const N: usize>(input: &mut impl Read) -> Option<[u8; N]> {
     let mut bytes = [0; N];
     input.read_exact(&mut bytes).ok()?;
     Some(bytes)
 }
 
-// The same, and none where a read fails before, one that is interrupted too: so the programs read.
+// The same, but a read that is interrupted ends it too: so the programs read.
 // Stays: no `read_exact`, which goes on where a read is interrupted.
 pub fn full_record<const N: usize>(input: &mut impl Read) -> Option<[u8; N]> {
     let mut bytes = [0; N];
